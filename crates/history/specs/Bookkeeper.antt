@@ -1,0 +1,130 @@
+-- Document 01, "The bookkeeper of demand 3". Told lengths and commands, and nothing of the engine's.
+use mathlib.Core.Bool.{Bool, true, false, cond, _||_}
+use mathlib.Core.List.{List, [], _∷_, _++_}
+use Prim.Native.Nat.{ℕ, suc, _+_, _-_, _/_, min, max}
+use lib.IntN.{ℤ}
+use lib.Dec.{ltb, eqb}
+use lib.ListN.{length}
+use Rattle.history.specs.declared.Position.{Position}
+use Rattle.history.specs.declared.Standing.{Standing}
+use Rattle.history.specs.declared.Standing.the-variants.{None, Unmarked, Marked, Closed}
+use Rattle.history.specs.declared.Session.{Session}
+use Rattle.history.specs.declared.Command.{Command}
+use Rattle.history.specs.declared.Command.the-variants.{Value, Mark, Query, Close}
+use Rattle.history.specs.Minima.{lastOf, minimum}
+use Rattle.history.specs.Replies.{Told, numbered, accepted, showing}
+use Rattle.history.specs.Refusals.{refusal}
+
+-- "On the paper stand N, K, the values in order, the active taps, the standing and l."
+pub record History : Type 0 where
+  pub words : ℕ
+  pub limit : ℕ
+  pub values : List ℤ
+  pub active : List Position
+  pub standing : Standing
+  pub peak : ℕ
+
+-- "The present position is how many values stand there"
+abbrev pub presentOf : History → Position
+presentOf h = record { 0 = length (h .values) }
+
+-- what demand 3 compares: "N, K, present position, last value, number of active taps and standing"
+abbrev pub sessionOf : History → Session
+sessionOf h = record {
+  words = h .words;
+  limit = h .limit;
+  present = presentOf h;
+  last = lastOf (h .values);
+  active = length (h .active);
+  standing = h .standing;
+}
+
+-- the history after a command, and what the command is told
+pub record Stepped : Type 0 where
+  pub history : History
+  pub tells : Told
+
+-- "The number of taps opened is K = (N − 512) / 64 rounded down, and at most 4,096."
+abbrev pub limitOf : ℕ → ℕ
+limitOf n = min ((n - 512) / 64) 4096
+
+-- "Opening: no values, no taps, standing none, l = 0."
+abbrev pub blank : ℕ → ℕ → History
+blank n k = record { words = n; limit = k; values = []; active = []; standing = None; peak = 0 }
+
+-- "Below 576: reply 1, and N and K are 0. Otherwise: reply 0, N is the length told, and K follows from it as above."
+abbrev pub opening : ℕ → Stepped
+opening n = cond (ltb n 576) (record { history = blank 0 0; tells = numbered 1 }) (record { history = blank n (limitOf n); tells = accepted })
+
+-- whether a position is among those given
+abbrev pub among : Position → List Position → Bool
+among i [] = false
+among i (a ∷ rest) = eqb (i .0) (a .0) || among i rest
+
+-- those given, without a position
+abbrev pub without : Position → List Position → List Position
+without i [] = []
+without i (a ∷ rest) = cond (eqb (i .0) (a .0)) (without i rest) (a ∷ without i rest)
+
+-- whether the command's position is an active mark
+abbrev pub isActive : History → Command → Bool
+isActive h (Value v) = false
+isActive h Mark = false
+isActive h (Query i) = among i (h .active)
+isActive h (Close i) = among i (h .active)
+
+-- "Value: it is written after the others; standing unmarked."
+abbrev pub valued : History → ℤ → History
+valued h v = record {
+  words = h .words;
+  limit = h .limit;
+  values = h .values ++ (v ∷ []);
+  active = h .active;
+  standing = Unmarked;
+  peak = h .peak;
+}
+
+-- "Mark: the present position joins the taps; standing marked. l rises to the number of taps where that is more."
+abbrev pub marked : History → History
+marked h = record {
+  words = h .words;
+  limit = h .limit;
+  values = h .values;
+  active = h .active ++ (presentOf h ∷ []);
+  standing = Marked;
+  peak = max (h .peak) (length (h .active ++ (presentOf h ∷ [])));
+}
+
+-- the standing after a Close of position i: "If it is the present position, standing is closed."
+abbrev pub closedAt : Position → Position → Standing → Standing
+closedAt present i standing = cond (eqb (i .0) (present .0)) Closed standing
+
+-- "Close: its position is struck from the taps."
+abbrev pub closed : History → Position → History
+closed h i = record {
+  words = h .words;
+  limit = h .limit;
+  values = h .values;
+  active = without i (h .active);
+  standing = closedAt (presentOf h) i (h .standing);
+  peak = h .peak;
+}
+
+-- a command to which no refusal applies "gets reply 0, as follows"
+abbrev pub accept : History → Command → Stepped
+accept h (Value v) = record { history = valued h v; tells = accepted }
+accept h Mark = record { history = marked h; tells = accepted }
+-- "Query: the reply shows the dip, taken over the written values; the paper stays."
+accept h (Query i) = record { history = h; tells = showing (minimum (h .values) i) }
+accept h (Close i) = record { history = closed h i; tells = accepted }
+
+-- "A command to which a refusal above applies .. gets the first such number in checking order, and the paper stays."
+abbrev pub refuse : History → ℕ → Stepped
+refuse h n = record { history = h; tells = numbered n }
+
+-- the refusal that applies to a command lent so many words; 0: none
+abbrev pub due : History → ℕ → Command → ℕ
+due h lent c = refusal (sessionOf h) lent (isActive h c) c
+
+abbrev pub step : History → ℕ → Command → Stepped
+step h lent c = cond (eqb (due h lent c) 0) (accept h c) (refuse h (due h lent c))

@@ -1,0 +1,4 @@
+pub mod Minima
+pub mod Replies
+pub mod Refusals
+pub mod Bookkeeper

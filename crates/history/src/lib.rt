@@ -1,0 +1,95 @@
+// The words that the engine and its callers share: positions, commands, the session and the replies.
+// What they mean is said in specs/, from document 01 alone; nothing here knows how the engine keeps its marks.
+ghost use mathlib.Core.Path.{_≡_};
+ghost use Rattle.history.specs.Replies.{numberOf, told};
+
+// A place in the stream of accepted Values, from 1; 0 stands before the first.
+pub struct Position(pub u32);
+
+// The present position's standing.
+pub enum Standing {
+    None,
+    Unmarked,
+    Marked,
+    Closed,
+}
+
+// A range minimum and the position where it stands: document 01's "dip".
+pub struct Minimum {
+    pub value: i32,
+    pub place: Position,
+}
+
+pub enum Command {
+    Value(i32),
+    Mark,
+    Query(Position),
+    Close(Position),
+}
+
+// Document 01, "Session and area": N, K, the present position, the last value, the number of active marks, the standing.
+pub struct Session {
+    pub words: usize,
+    pub limit: usize,
+    pub present: Position,
+    pub last: i32,
+    pub active: usize,
+    pub standing: Standing,
+}
+
+// Why a command, an opening or a reading is refused. Document 01's number of each is `number`.
+pub enum Refusal {
+    AreaTooShort,
+    UnknownKind,
+    ArgumentCutOff,
+    Unopened,
+    OtherLength,
+    LastPosition,
+    NothingToMark,
+    AlreadyMarked,
+    AlreadyClosed,
+    Full,
+    NotActive,
+}
+
+pub enum Reply {
+    Accepted,
+    Lowest(Minimum),
+    Refused(Refusal),
+}
+
+// A reply, with the session after it.
+pub struct Answer {
+    pub reply: Reply,
+    pub session: Session,
+}
+
+// Document 01's number of a refusal.
+pub fn number(refusal: Refusal) -> u8
+    ensures { λ r. ⌜ r ≡ numberOf refusal ⌝ }
+{
+    match refusal {
+        Refusal::AreaTooShort => 1,
+        Refusal::UnknownKind => 2,
+        Refusal::ArgumentCutOff => 3,
+        Refusal::Unopened => 4,
+        Refusal::OtherLength => 5,
+        Refusal::LastPosition => 6,
+        Refusal::NothingToMark => 7,
+        Refusal::AlreadyMarked => 8,
+        Refusal::AlreadyClosed => 9,
+        Refusal::Full => 10,
+        Refusal::NotActive => 11,
+    }
+}
+
+// Document 01's number of a reply: 0 of an acceptance.
+pub fn reply_number(reply: Reply) -> u8
+    ensures { λ r. ⌜ r ≡ told reply .number ⌝ }
+{
+    match reply {
+        Reply::Accepted => 0,
+        Reply::Lowest(_) => 0,
+        Reply::Refused(refusal) => number(refusal),
+    }
+}

@@ -1,0 +1,55 @@
+// Where things stand in the lent words: a header of 16 words, then rows of 8.
+// Row n holds the mark of reduced position n (words 0 to 2), the stack entry at place n (3 to 5) and the head of hash bucket n (6);
+// word 7 is spare. So the words touched grow with the rows in use and with nothing else.
+ghost use Rattle.layout.specs.Layout.{Headed};
+
+// A reduced position: source document 000's number of a mark among those it keeps, here its row.
+pub struct Held(pub usize);
+
+// A place of the stack, from 0 at its bottom.
+pub struct Place(pub usize);
+
+// The rows in use, the rows there is room for, and the stack's height.
+pub struct Header {
+    pub rows: usize,
+    pub capacity: usize,
+    pub height: usize,
+}
+
+// The header of any words: where they cannot be the engine's, an empty one, so that its bounds hold of every content.
+pub fn read_header(area: &[u64]) -> Header
+    ensures { λ r. ⌜ Headed (now (area .entry)) r ⌝ }
+{
+    let none = Header {
+        rows: 0,
+        capacity: 0,
+        height: 0,
+    };
+    let n = area.len();
+    if n < 16 {
+        return none;
+    }
+    let rows = area[0] as usize;
+    let capacity = area[1] as usize;
+    let height = area[2] as usize;
+    if capacity == 0 {
+        return none;
+    }
+    if 8254 < capacity {
+        return none;
+    }
+    if capacity < rows {
+        return none;
+    }
+    if rows < height {
+        return none;
+    }
+    if n < 16 + 8 * capacity {
+        return none;
+    }
+    Header {
+        rows,
+        capacity,
+        height,
+    }
+}
