@@ -1,7 +1,8 @@
 -- The range minimum of a mark, document 01's "dip". It names values and positions, and nothing of the engine.
-use mathlib.Core.Bool.{Bool, cond}
+use mathlib.Core.Path.{_≡_}
+use mathlib.Core.Bool.{Bool, true, false, cond}
 use mathlib.Core.List.{List, [], _∷_}
-use Prim.Native.Nat.{ℕ, suc, _+_, _-_}
+use Prim.Native.Nat.{ℕ, suc, _-_, _<_, _≤_}
 use lib.IntN.{ℤ, pos}
 use lib.Signed.{leZ}
 use lib.ListN.{length, getD, drop}
@@ -37,3 +38,12 @@ lastOf values = valueAt values (length values)
 -- "The dip of an active tap i at present position j is the least of the values at i to j, and its place."
 abbrev pub minimum : List ℤ → Position → Minimum
 minimum values i = lowest (standsAt (valueAt values (i .0)) (i .0)) (suc (i .0)) (drop (i .0) values)
+
+-- What makes it the dip: it stands at one of the positions from i to the present, no value there is lower, and each later one is higher.
+-- That `minimum` is so, and that nothing else is, are laws of proofs/.
+pub record Least (values : List ℤ) (i : Position) (m : Minimum) : Type 0 where
+  pub from : i .0 ≤ m .place .0
+  pub to : m .place .0 ≤ length values
+  pub stands : valueAt values (m .place .0) ≡ m .value
+  pub least : (k : ℕ) → i .0 ≤ k → k ≤ length values → leZ (m .value) (valueAt values k) ≡ true
+  pub latest : (k : ℕ) → m .place .0 < k → k ≤ length values → leZ (valueAt values k) (m .value) ≡ false

@@ -1,0 +1,38 @@
+-- The order of ℤ as tests: `leZ` is reflexive, transitive, total and antisymmetric.
+use mathlib.Core.Path.{_≡_, refl, sym, ap, subst}
+use mathlib.Core.Bool.{Bool, true, false}
+use Prim.Native.Nat.{ℕ, _<_, _≤_}
+use native.Mathlib.Omega.{arith}
+use lib.Dec.{T}
+use lib.IntN.{ℤ, pos, negsuc}
+use lib.Signed.{leZ}
+use borrow.Author.Tests.{leb-true, leb-false, le-leb, lt-leb}
+
+-- a test that is both true and false
+pub clash : {C : Type 0} {b : Bool} → b ≡ true → b ≡ false → C
+clash p q = absurd (let z : true ≡ false = cc in subst T z tt)
+
+pub leZ-refl : (a : ℤ) → leZ a a ≡ true
+leZ-refl (pos a) = le-leb a a (omega arith)
+leZ-refl (negsuc a) = le-leb a a (omega arith)
+
+pub leZ-trans : (a b c : ℤ) → leZ a b ≡ true → leZ b c ≡ true → leZ a c ≡ true
+leZ-trans (pos a) (pos b) (pos c) h k = le-leb a c (omega (arith, leb-true a b h, leb-true b c k))
+leZ-trans (pos a) (pos b) (negsuc c) h k = k
+leZ-trans (pos a) (negsuc b) c h k = clash refl (sym h)
+leZ-trans (negsuc a) b (pos c) h k = refl
+leZ-trans (negsuc a) (pos b) (negsuc c) h k = clash refl (sym k)
+leZ-trans (negsuc a) (negsuc b) (negsuc c) h k = le-leb c a (omega (arith, leb-true b a h, leb-true c b k))
+
+-- of two values one is at most the other
+pub leZ-total : (a b : ℤ) → leZ a b ≡ false → leZ b a ≡ true
+leZ-total (pos a) (pos b) h = le-leb b a (omega (arith, leb-false a b h))
+leZ-total (pos a) (negsuc b) h = refl
+leZ-total (negsuc a) (pos b) h = clash refl h
+leZ-total (negsuc a) (negsuc b) h = le-leb a b (omega (arith, leb-false b a h))
+
+pub leZ-antisym : (a b : ℤ) → leZ a b ≡ true → leZ b a ≡ true → a ≡ b
+leZ-antisym (pos a) (pos b) h k = ap pos (omega (arith, leb-true a b h, leb-true b a k))
+leZ-antisym (pos a) (negsuc b) h k = clash refl (sym h)
+leZ-antisym (negsuc a) (pos b) h k = clash refl (sym k)
+leZ-antisym (negsuc a) (negsuc b) h k = ap negsuc (omega (arith, leb-true b a h, leb-true a b k))
