@@ -5,7 +5,6 @@ use mathlib.Core.Bool.{Bool, true, false, cond}
 use mathlib.Core.List.{List, [], _∷_, _++_, append-assoc, append-nil}
 use mathlib.Core.Logic.{_⊎_, inl, inr, ⊎-elim}
 use Prim.Native.Nat.{ℕ, zero, suc, _+_, _-_, _<_, _≤_}
-use native.Mathlib.Numerals.{add-one}
 use native.Mathlib.Decide.{ℕ-discrete, decLt}
 use native.Mathlib.Omega.{arith}
 use lib.IntN.{ℤ, pos}
@@ -14,76 +13,85 @@ use lib.ListN.{length, getD, take, drop, length-append, length-drop, take-append
 use lib.Seq.{drop-append-le, drop-length, getD-append-seam, getD-at, length-take-le, getD-take}
 use Rattle.history.specs.declared.Position.{Position}
 use Rattle.history.specs.declared.Minimum.{Minimum}
-use Rattle.history.specs.Minima.{takesOver, lower, standsAt, lowest, valueAt, lastOf, minimum, Least}
-use Rattle.history.proofs.Order.{clash, leZ-refl, leZ-trans, leZ-total, leZ-antisym}
+use Rattle.history.specs.Minima.{takesOver, lower, standsAt, next, lowest, presentAt, valueAt, lastOf, minimum, Least}
+use Rattle.history.proofs.Order.{clash, leZ-refl, leZ-trans}
+use Rattle.history.proofs.Choice.{no-larger, no-smaller}
 
 -- one value more at the end of a list of values
 length-more : (vs : List ℤ) (v : ℤ) → length (vs ++ (v ∷ [])) ≡ length vs + 1
 length-more vs v = length-append vs (v ∷ [])
 
-valueAt-older : (vs : List ℤ) (v : ℤ) (k : ℕ) → 0 < k → k ≤ length vs → valueAt (vs ++ (v ∷ [])) k ≡ valueAt vs k
-valueAt-older vs v k z h = List·getD-append vs (v ∷ []) (pos 0) (k - 1) (omega arith)
+valueAt-older : (vs : List ℤ) (v : ℤ) (k : Position) → 0 < k .0 → k .0 ≤ length vs → valueAt (vs ++ (v ∷ [])) k ≡ valueAt vs k
+valueAt-older vs v k z h = List·getD-append vs (v ∷ []) (pos 0) (k .0 - 1) (omega arith)
 
-valueAt-newest : (vs : List ℤ) (v : ℤ) (k : ℕ) → k ≡ length vs + 1 → valueAt (vs ++ (v ∷ [])) k ≡ v
-valueAt-newest vs v k e = getD-at vs v [] (pos 0) (k - 1) (omega arith)
+valueAt-newest : (vs : List ℤ) (v : ℤ) (k : Position) → k .0 ≡ length vs + 1 → valueAt (vs ++ (v ∷ [])) k ≡ v
+valueAt-newest vs v k e = getD-at vs v [] (pos 0) (k .0 - 1) (omega arith)
+
+-- the value that comes last is the last one
+pub lastOf-more : (vs : List ℤ) (v : ℤ) → lastOf (vs ++ (v ∷ [])) ≡ v
+lastOf-more vs v = valueAt-newest vs v (presentAt (vs ++ (v ∷ []))) (length-more vs v)
 
 -- one value more at the end of the values that follow the least so far
-lowest-more : (d : Minimum) (i : ℕ) (vs : List ℤ) (v : ℤ) → lowest d i (vs ++ (v ∷ [])) ≡ lower (lowest d i vs) (standsAt v (i + length vs))
+lowest-more : (d : Minimum) (i : Position) (vs : List ℤ) (v : ℤ)
+    → lowest d i (vs ++ (v ∷ [])) ≡ lower (lowest d i vs) (standsAt v (record { 0 = i .0 + length vs }))
 unfolding lowest
-lowest-more d i [] v = ap (λ (k : ℕ). lower d (standsAt v k)) (omega arith)
+lowest-more d i [] v = ap (λ (k : ℕ). lower d (standsAt v (record { 0 = k }))) (omega arith)
 lowest-more d i (u ∷ us) v =
-    lowest-more (lower d (standsAt u i)) (suc i) us v
-    ∙ ap (λ (k : ℕ). lower (lowest (lower d (standsAt u i)) (suc i) us) (standsAt v k)) (omega arith)
+    lowest-more (lower d (standsAt u i)) (next i) us v
+    ∙ ap (λ (k : ℕ). lower (lowest (lower d (standsAt u i)) (next i) us) (standsAt v (record { 0 = k }))) (omega arith)
 
 -- THE LAW OF VALUE: with one value more, the minimum is the lower of the minimum before and that value
 pub minimum-more : (vs : List ℤ) (v : ℤ) (i : Position) → 0 < i .0 → i .0 ≤ length vs
-    → minimum (vs ++ (v ∷ [])) i ≡ lower (minimum vs i) (standsAt v (length vs + 1))
+    → minimum (vs ++ (v ∷ [])) i ≡ lower (minimum vs i) (standsAt v (next (presentAt vs)))
 minimum-more vs v i z h =
-    let a = valueAt-older vs v (i .0) z h in
+    let a = valueAt-older vs v i z h in
     let b = drop-append-le (i .0) vs (v ∷ []) h in
     rw (a, b)
-    (lowest-more (standsAt (valueAt vs (i .0)) (i .0)) (suc (i .0)) (drop (i .0) vs) v
-    ∙ ap (λ (k : ℕ). lower (minimum vs i) (standsAt v k)) (omega (arith, length-drop (i .0) vs)))
+    (lowest-more (standsAt (valueAt vs i) i) (next i) (drop (i .0) vs) v
+    ∙ ap (λ (k : ℕ). lower (minimum vs i) (standsAt v (record { 0 = k }))) (omega (arith, length-drop (i .0) vs)))
 
 -- THE LAW OF MARK: at the present position the minimum is the last value, there
-pub minimum-new : (vs : List ℤ) (i : Position) → i .0 ≡ length vs → minimum vs i ≡ standsAt (lastOf vs) (length vs)
+pub minimum-new : (vs : List ℤ) → minimum vs (presentAt vs) ≡ standsAt (lastOf vs) (presentAt vs)
 unfolding lowest
-minimum-new vs i e = rw (e, drop-length vs)
+minimum-new vs = rw (drop-length vs)
 
 -- the least value so far stays so, or the new value takes over
 least-more : (vs : List ℤ) (v : ℤ) (i : Position) (d : Minimum) → 0 < i .0 → i .0 ≤ length vs → Least vs i d
-    → Least (vs ++ (v ∷ [])) i (lower d (standsAt v (length vs + 1)))
+    → Least (vs ++ (v ∷ [])) i (lower d (standsAt v (next (presentAt vs))))
 least-more vs v i d z h l = go (takesOver v (d .value)) refl
   where
     more : length (vs ++ (v ∷ [])) ≡ length vs + 1
     more = length-more vs v
 
-    old : (k : ℕ) → 0 < k → k ≤ length vs → valueAt (vs ++ (v ∷ [])) k ≡ valueAt vs k
+    old : (k : Position) → 0 < k .0 → k .0 ≤ length vs → valueAt (vs ++ (v ∷ [])) k ≡ valueAt vs k
     old k = valueAt-older vs v k
 
-    new : (k : ℕ) → k ≡ length vs + 1 → valueAt (vs ++ (v ∷ [])) k ≡ v
+    new : (k : Position) → k .0 ≡ length vs + 1 → valueAt (vs ++ (v ∷ [])) k ≡ v
     new k = valueAt-newest vs v k
 
-    go : (b : Bool) → takesOver v (d .value) ≡ b → Least (vs ++ (v ∷ [])) i (cond b (standsAt v (length vs + 1)) d)
+    go : (b : Bool) → takesOver v (d .value) ≡ b → Least (vs ++ (v ∷ [])) i (cond b (standsAt v (next (presentAt vs))) d)
     go true e = record {
+      some = z;
       from = omega arith;
       to = omega (arith, more);
-      stands = new (length vs + 1) refl;
-      least = λ k f t. elim (ℕ-discrete k (length vs + 1)) [
+      stands = new (next (presentAt vs)) refl;
+      least = λ k f t. elim (ℕ-discrete (k .0) (length vs + 1)) [
         | yes q ↦ rw (new k q) (leZ-refl v)
-        | no q ↦ rw (old k (omega arith) (omega (arith, q, more))) (leZ-trans v (d .value) (valueAt vs k) e (l .least k f (omega (arith, q, more))))
+        | no q ↦ rw (old k (omega arith) (omega (arith, q, more)))
+            (leZ-trans v (d .value) (valueAt vs k) (no-larger v (d .value) e) (l .least k f (omega (arith, q, more))))
       ];
       latest = λ k f t. absurd (omega (arith, more));
     }
     go false e = record {
+      some = z;
       from = l .from;
       to = omega (arith, l .to, more);
-      stands = old (d .place .0) (omega (arith, l .from)) (l .to) ∙ l .stands;
-      least = λ k f t. elim (ℕ-discrete k (length vs + 1)) [
-        | yes q ↦ rw (new k q) (leZ-total v (d .value) e)
+      stands = old (d .place) (omega (arith, l .from)) (l .to) ∙ l .stands;
+      least = λ k f t. elim (ℕ-discrete (k .0) (length vs + 1)) [
+        | yes q ↦ rw (new k q) (no-smaller v (d .value) e)
         | no q ↦ rw (old k (omega arith) (omega (arith, q, more))) (l .least k f (omega (arith, q, more)))
       ];
-      latest = λ k f t. elim (ℕ-discrete k (length vs + 1)) [
+      latest = λ k f t. elim (ℕ-discrete (k .0) (length vs + 1)) [
         | yes q ↦ rw (new k q) e
         | no q ↦ rw (old k (omega (arith, l .from)) (omega (arith, q, more))) (l .latest k f (omega (arith, q, more)))
       ];
@@ -91,40 +99,45 @@ least-more vs v i d z h l = go (takesOver v (d .value)) refl
 
 -- the least so far of the values before, and those that follow
 lowest-least : (before after : List ℤ) (i : Position) (d : Minimum) → 0 < i .0 → i .0 ≤ length before → Least before i d
-    → Least (before ++ after) i (lowest d (suc (length before)) after)
+    → Least (before ++ after) i (lowest d (next (presentAt before)) after)
 unfolding lowest
 lowest-least before [] i d z h l = rw (append-nil before) l
 lowest-least before (v ∷ after) i d z h l =
     let n = length-more before v in
-    let e : length before + 1 ≡ suc (length before) = add-one (length before) in
-    let r = lowest-least (before ++ (v ∷ [])) after i (lower d (standsAt v (length before + 1))) z (omega arith) (least-more before v i d z h l) in
-    rw (n, e, append-assoc) at r
+    let r = lowest-least (before ++ (v ∷ [])) after i (lower d (standsAt v (next (presentAt before)))) z (omega arith) (least-more before v i d z h l) in
+    rw (n, append-assoc) at r
 
 -- THE MINIMUM IS THE LEAST: of an active mark's position, which is at least 1 and at most the present one
 pub minimum-least : (vs : List ℤ) (i : Position) → 0 < i .0 → i .0 ≤ length vs → Least vs i (minimum vs i)
 minimum-least vs i z h =
     let n = length-take-le (i .0) vs h in
-    let a : valueAt (take (i .0) vs) (i .0) ≡ valueAt vs (i .0) = getD-take (i .0) vs (i .0 - 1) (pos 0) (omega arith) in
-    let first : Least (take (i .0) vs) i (standsAt (valueAt vs (i .0)) (i .0)) = record {
+    let a : valueAt (take (i .0) vs) i ≡ valueAt vs i = getD-take (i .0) vs (i .0 - 1) (pos 0) (omega arith) in
+    let first : Least (take (i .0) vs) i (standsAt (valueAt vs i) i) = record {
+      some = z;
       from = omega arith;
       to = omega arith;
       stands = a;
-      least = λ k f t. let e : k ≡ i .0 = omega arith in rw (e, a) (leZ-refl (valueAt vs (i .0)));
+      least = λ k f t.
+          let e : _≡_ {A = Position} k i = λ x. record { 0 = only k f t x } in
+          rw (e, a) (leZ-refl (valueAt vs i));
       latest = λ k f t. absurd (omega arith);
     } in
-    let r = lowest-least (take (i .0) vs) (drop (i .0) vs) i (standsAt (valueAt vs (i .0)) (i .0)) z (omega arith) first in
+    let r = lowest-least (take (i .0) vs) (drop (i .0) vs) i (standsAt (valueAt vs i) i) z (omega arith) first in
     rw (n, take-append-drop) at r
+  where
+    only : (k : Position) → i .0 ≤ k .0 → k .0 ≤ length (take (i .0) vs) → k .0 ≡ i .0
+    only k f t = omega (arith, length-take-le (i .0) vs h)
 
 -- two minima that stand at one place are equal
 same-place : (vs : List ℤ) {i j : Position} {d e : Minimum} → Least vs i d → Least vs j e → d .place .0 ≡ e .place .0 → d ≡ e
 same-place vs {d = d} {e} l m p =
-    let q : d .value ≡ e .value = sym (l .stands) ∙ ap (valueAt vs) p ∙ m .stands in
+    let q : d .value ≡ e .value = sym (l .stands) ∙ ap (λ (k : ℕ). valueAt vs (record { 0 = k })) p ∙ m .stands in
     λ n. record { value = q n; place = record { 0 = p n } }
 
 -- of two minima of one position, neither stands before the other
 not-before : (vs : List ℤ) {i : Position} {d e : Minimum} → Least vs i d → Least vs i e → d .place .0 < e .place .0 → ⊥
 not-before vs {d = d} {e} l m p =
-    clash (rw (l .stands) at (m .least (d .place .0) (l .from) (l .to))) (rw (m .stands) at (l .latest (e .place .0) p (m .to)))
+    clash (rw (l .stands) at (m .least (d .place) (l .from) (l .to))) (rw (m .stands) at (l .latest (e .place) p (m .to)))
 
 -- AND NOTHING ELSE IS: "for a given tap the dip has one value and one place"
 pub least-only : (vs : List ℤ) (i : Position) (d e : Minimum) → Least vs i d → Least vs i e → d ≡ e
@@ -143,7 +156,7 @@ pub minimum-rises : (vs : List ℤ) (i j : Position) → 0 < i .0 → i .0 ≤ j
 minimum-rises vs i j z o h =
     let l = minimum-least vs i z (omega arith) in
     let m = minimum-least vs j (omega arith) h in
-    rw (m .stands) at (l .least (minimum vs j .place .0) (omega (arith, m .from)) (m .to))
+    rw (m .stands) at (l .least (minimum vs j .place) (omega (arith, m .from)) (m .to))
 
 -- two positions whose minima stand at one place have one minimum
 pub minimum-shared : (vs : List ℤ) (i j : Position) → 0 < i .0 → i .0 ≤ length vs → 0 < j .0 → j .0 ≤ length vs

@@ -1,5 +1,5 @@
--- The order of ℤ as tests: `leZ` is reflexive, transitive, total and antisymmetric.
-use mathlib.Core.Path.{_≡_, refl, sym, ap, subst}
+-- The order of ℤ as tests: `leZ` is reflexive, transitive and total.
+use mathlib.Core.Path.{_≡_, refl, sym, subst}
 use mathlib.Core.Bool.{Bool, true, false}
 use Prim.Native.Nat.{ℕ, _<_, _≤_}
 use native.Mathlib.Omega.{arith}
@@ -30,9 +30,3 @@ leZ-total (pos a) (pos b) h = le-leb b a (omega (arith, leb-false a b h))
 leZ-total (pos a) (negsuc b) h = refl
 leZ-total (negsuc a) (pos b) h = clash refl h
 leZ-total (negsuc a) (negsuc b) h = le-leb a b (omega (arith, leb-false b a h))
-
-pub leZ-antisym : (a b : ℤ) → leZ a b ≡ true → leZ b a ≡ true → a ≡ b
-leZ-antisym (pos a) (pos b) h k = ap pos (omega (arith, leb-true a b h, leb-true b a k))
-leZ-antisym (pos a) (negsuc b) h k = clash refl (sym h)
-leZ-antisym (negsuc a) (pos b) h k = clash refl (sym k)
-leZ-antisym (negsuc a) (negsuc b) h k = ap negsuc (omega (arith, leb-true b a h, leb-true a b k))

@@ -11,7 +11,7 @@ use Rattle.history.specs.declared.Standing.the-variants.{None, Unmarked,
 use Rattle.history.specs.declared.Session.{Session}
 use Rattle.history.specs.declared.Command.{Command}
 use Rattle.history.specs.declared.Command.the-variants.{Value, Mark, Query, Close}
-use Rattle.history.specs.Minima.{lastOf, minimum}
+use Rattle.history.specs.Minima.{presentAt, lastOf, minimum}
 use Rattle.history.specs.Replies.{Told, numbered, accepted, showing}
 use Rattle.history.specs.Refusals.{refusal}
 
@@ -26,7 +26,7 @@ pub record History : Type 0 where
 
 -- "The present position is how many values stand there"
 abbrev pub presentOf : History → Position
-presentOf h = record { 0 = length (h .values) }
+presentOf h = presentAt (h .values)
 
 -- what demand 3 compares: "N, K, present position, last value, number of active taps and standing"
 abbrev pub sessionOf : History → Session

@@ -1,8 +1,10 @@
 -- The range minimum of a mark, document 01's "dip". It names values and positions, and nothing of the engine.
+-- A `Minimum` is a value and the position where it stands; `lower` is the lower of two of them, `lowest` of all from a position on,
+-- `minimum` of all since a mark; `Least` says what makes it the least.
 use mathlib.Core.Path.{_≡_}
 use mathlib.Core.Bool.{Bool, true, false, cond}
 use mathlib.Core.List.{List, [], _∷_}
-use Prim.Native.Nat.{ℕ, suc, _-_, _<_, _≤_}
+use Prim.Native.Nat.{_+_, _-_, _<_, _≤_}
 use lib.IntN.{ℤ, pos}
 use lib.Signed.{leZ}
 use lib.ListN.{length, getD, drop}
@@ -19,31 +21,41 @@ abbrev pub lower : Minimum → Minimum → Minimum
 lower least later = cond (takesOver (later .value) (least .value)) later least
 
 -- the value v, as it stands at position i
-abbrev pub standsAt : ℤ → ℕ → Minimum
-standsAt v i = record { value = v; place = record { 0 = i } }
+abbrev pub standsAt : ℤ → Position → Minimum
+standsAt v i = record { value = v; place = i }
+
+-- the position after i
+abbrev pub next : Position → Position
+next i = record { 0 = i .0 + 1 }
 
 -- the least, with its place, of the least so far and of the values that follow it from position i on
-unfoldable pub lowest : Minimum → ℕ → List ℤ → Minimum
+unfoldable pub lowest : Minimum → Position → List ℤ → Minimum
 lowest least i [] = least
-lowest least i (v ∷ vs) = lowest (lower least (standsAt v i)) (suc i) vs
+lowest least i (v ∷ vs) = lowest (lower least (standsAt v i)) (next i) vs
+
+-- "the n-th accepted Value has position n, and the present position is the number of accepted Values, 0 before the first"
+abbrev pub presentAt : List ℤ → Position
+presentAt values = record { 0 = length values }
 
 -- "Positions start at 1": the value at position i
-abbrev pub valueAt : List ℤ → ℕ → ℤ
-valueAt values i = getD values (i - 1) (pos 0)
+abbrev pub valueAt : List ℤ → Position → ℤ
+valueAt values i = getD values (i .0 - 1) (pos 0)
 
--- "The last value is 0 until the first Value."
+-- "the last value is 0 while there is none"
 abbrev pub lastOf : List ℤ → ℤ
-lastOf values = valueAt values (length values)
+lastOf values = valueAt values (presentAt values)
 
--- "The dip of an active tap i at present position j is the least of the values at i to j, and its place."
+-- "The dip of an active tap i at present position j is the least of the values at i to j, and its place." An active mark stands at one
+-- of the positions 1 to j; of another position this says nothing that anyone is told
 abbrev pub minimum : List ℤ → Position → Minimum
-minimum values i = lowest (standsAt (valueAt values (i .0)) (i .0)) (suc (i .0)) (drop (i .0) values)
+minimum values i = lowest (standsAt (valueAt values i) i) (next i) (drop (i .0) values)
 
 -- What makes it the dip: it stands at one of the positions from i to the present, no value there is lower, and each later one is higher.
--- That `minimum` is so, and that nothing else is, are laws of proofs/.
+-- That `minimum` is so, and that nothing else is, are laws of proofs/Lowest
 pub record Least (values : List ℤ) (i : Position) (m : Minimum) : Type 0 where
+  pub some : 1 ≤ i .0
   pub from : i .0 ≤ m .place .0
   pub to : m .place .0 ≤ length values
-  pub stands : valueAt values (m .place .0) ≡ m .value
-  pub least : (k : ℕ) → i .0 ≤ k → k ≤ length values → leZ (m .value) (valueAt values k) ≡ true
-  pub latest : (k : ℕ) → m .place .0 < k → k ≤ length values → leZ (valueAt values k) (m .value) ≡ false
+  pub stands : valueAt values (m .place) ≡ m .value
+  pub least : (k : Position) → i .0 ≤ k .0 → k .0 ≤ length values → leZ (m .value) (valueAt values k) ≡ true
+  pub latest : (k : Position) → m .place .0 < k .0 → k .0 ≤ length values → leZ (valueAt values k) (m .value) ≡ false

@@ -1,0 +1,25 @@
+-- The laws of the choice among equal values. Those that the stack needs hold of `leZ` as of `ltZ`: nothing above this crate looks into `takesOver`.
+use mathlib.Core.Path.{_≡_, refl, sym, ap, _∙_}
+use mathlib.Core.Bool.{Bool, true, false, cond}
+use lib.IntN.{ℤ}
+use lib.Signed.{leZ}
+use Rattle.history.specs.declared.Minimum.{Minimum}
+use Rattle.history.specs.Minima.{takesOver, lower}
+use Rattle.history.proofs.Order.{leZ-trans, leZ-total}
+
+-- what takes over from a value takes over from a larger one
+pub monotone : (v a b : ℤ) → leZ a b ≡ true → takesOver v a ≡ true → takesOver v b ≡ true
+monotone v a b l h = leZ-trans v a b h l
+
+-- what takes over is no larger
+pub no-larger : (v a : ℤ) → takesOver v a ≡ true → leZ v a ≡ true
+no-larger v a h = h
+
+-- what does not take over is no smaller
+pub no-smaller : (v a : ℤ) → takesOver v a ≡ false → leZ a v ≡ true
+no-smaller v a h = leZ-total v a h
+
+-- the lower of a minimum and a later one, by what the choice says
+pub lower-as : {a d : Minimum} (m : Minimum) (b : Bool) → a ≡ d → takesOver (m .value) (a .value) ≡ b → lower d m ≡ cond b m d
+lower-as {a} {d} m b e h =
+    ap (λ (x : Bool). cond x m d) (ap (λ (x : Minimum). takesOver (m .value) (x .value)) (sym e) ∙ h)
