@@ -1,0 +1,4 @@
+pub mod Bytes
+pub mod Ways
+pub mod Lengths
+pub mod Examples
