@@ -6,9 +6,9 @@ use lib.ListN.{length, getD}
 use Rattle.history.specs.declared.Position.{Position}
 use Rattle.history.specs.Bookkeeper.{without}
 use Rattle.layout.specs.declared.Held.{Held}
-use Rattle.layout.specs.Layout.{rows, capacity, height, position, flag, Room}
+use Rattle.layout.specs.Layout.{rows, capacity, height, position, head, Room}
 use Rattle.table.specs.declared.Found.{Found}
-use Rattle.table.specs.declared.Found.the-variants.{At, Nothing}
+use Rattle.table.specs.declared.Found.the-variants.{At}
 use Rattle.table.specs.Marks.{Linked, activeIn, Live, Above}
 
 -- a search for position p: what it finds is an active mark at p, and in a table it finds each
@@ -25,6 +25,7 @@ pub record Inserted (w v : List ℕ) (p : Position) : Type 0 where
   pub place : Linked w → rows w < capacity w → position v (record { 0 = rows w }) ≡ p .0
   pub kept : (i : ℕ) → (i ≡ 0 → ⊥) → (i ≡ 16 + 8 * rows w → ⊥) → (i ≡ 16 + 8 * rows w + 1 → ⊥) → (i ≡ 16 + 8 * rows w + 2 → ⊥)
       → ((b : ℕ) → b < capacity w → i ≡ 16 + 8 * b + 6 → ⊥) → getD v i 0 ≡ getD w i 0
+  pub inside : (i : ℕ) → 16 + 8 * capacity w ≤ i → getD v i 0 ≡ getD w i 0
 
 -- row h is closed
 pub record Released (w v : List ℕ) (h : Held) : Type 0 where
@@ -41,4 +42,5 @@ pub record Cleared (w v : List ℕ) (c : ℕ) : Type 0 where
   pub none : Room w c → rows v ≡ 0
   pub size : Room w c → capacity v ≡ c
   pub flat : Room w c → height v ≡ 0
+  pub heads : Room w c → (b : ℕ) → b < c → head v b ≡ 0
   pub kept : (i : ℕ) → 3 ≤ i → ((b : ℕ) → b < c → i ≡ 16 + 8 * b + 6 → ⊥) → getD v i 0 ≡ getD w i 0

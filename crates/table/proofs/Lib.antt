@@ -1,0 +1,10 @@
+pub mod Scaled
+pub mod Reading
+pub mod Chains
+pub mod Positions
+pub mod Active
+pub mod Stays
+pub mod Struck
+pub mod Grown
+pub mod Stored
+pub mod Emptied
