@@ -1,24 +1,38 @@
 -- What each function of the stack promises, of any words; where they are a stack, that they stay one and what it then has for each row.
 use mathlib.Core.Path.{_≡_}
-use mathlib.Core.Bool.{true}
+use mathlib.Core.Bool.{Bool, true, false}
 use mathlib.Core.List.{List}
-use Prim.Native.Nat.{ℕ, _+_, _*_, _-_, _<_, _≤_}
+use Prim.Native.Nat.{ℕ, _+_, _*_, _<_, _≤_}
 use lib.ListN.{length, getD}
+use lib.IntN.{ℤ}
 use lib.Signed.{leZ}
 use Rattle.history.specs.declared.Position.{Position}
 use Rattle.history.specs.declared.Minimum.{Minimum}
-use Rattle.history.specs.Minima.{lower}
+use Rattle.history.specs.Minima.{lower, takesOver}
 use Rattle.layout.specs.declared.Held.{Held}
 use Rattle.layout.specs.declared.Place.{Place}
-use Rattle.layout.specs.Layout.{rows, capacity, height, Fits}
+use Rattle.layout.specs.Layout.{rows, capacity, height, leastAt, Fits}
 use Rattle.stack.specs.declared.Low.{Low}
-use Rattle.stack.specs.declared.Low.the-variants.{At, Nothing}
-use Rattle.stack.specs.Runs.{Stacked, Covers, Rests, entry}
+use Rattle.stack.specs.declared.Low.the-variants.{At}
+use Rattle.stack.specs.Runs.{Stacked, Covers, Rests, least, entry}
 
 -- word i is none of the stack's: neither its height nor part of an entry at one of the places given
 pub record Beside (i : ℕ) (from to : ℕ) : Type 0 where
   pub height : i ≡ 2 → ⊥
   pub entries : (t : ℕ) → from ≤ t → t < to → (i ≡ 16 + 8 * t + 3 → ⊥) × (i ≡ 16 + 8 * t + 4 → ⊥) × (i ≡ 16 + 8 * t + 5 → ⊥)
+
+-- of the entries below a height, the value v takes over those from place k up, and not the one below k
+pub record TakenOver (w : List ℕ) (height : ℕ) (v : ℤ) (k : Place) : Type 0 where
+  pub within : k .0 ≤ height
+  pub taken : (t : Place) → k .0 ≤ t .0 → t .0 < height → takesOver v (least w t) ≡ true
+  pub stays : (t : Place) → t .0 + 1 ≡ k .0 → takesOver v (least w t) ≡ false
+
+-- the entry at place t becomes m, and the top
+pub record Topped (w v : List ℕ) (t : Place) (m : Minimum) : Type 0 where
+  pub long : length v ≡ length w
+  pub top : height v ≡ t .0 + 1
+  pub new : entry v t ≡ m
+  pub kept : (i : ℕ) → (i ≡ 2 → ⊥) → (i ≡ 16 + 8 * t .0 + 3 → ⊥) → (i ≡ 16 + 8 * t .0 + 4 → ⊥) → getD v i 0 ≡ getD w i 0
 
 -- a value m comes: each row's minimum is the lower of its own and m
 pub record Lowered (w v : List ℕ) (m : Minimum) : Type 0 where
@@ -35,7 +49,13 @@ pub record Pushed (w v : List ℕ) (m : Minimum) : Type 0 where
   pub rests : (n : ℕ) → Stacked w n → rows w ≡ n + 1 → Rests v (record { 0 = n }) m
   pub older : (n : ℕ) → Stacked w n → rows w ≡ n + 1 → (h : Held) (d : Minimum) → h .0 < n → Rests w h d → Rests v h d
   pub count : Fits w → height w < rows w → height v ≡ height w + 1
+  pub top : Fits w → height w < rows w → leastAt v (record { 0 = height w }) ≡ m .place .0
   pub kept : (i : ℕ) → Beside i (height w) (height w + 1) → getD v i 0 ≡ getD w i 0
+
+-- whether the top entry stands at a position
+pub record Topping (w : List ℕ) (p : Position) (r : Bool) : Type 0 where
+  pub yes : r ≡ true → (0 < height w) × ((t : Place) → t .0 + 1 ≡ height w → leastAt w t ≡ p .0)
+  pub no : r ≡ false → Fits w → (t : Place) → t .0 + 1 ≡ height w → leastAt w t ≡ p .0 → ⊥
 
 -- the place whose run has row h
 pub record Sought (w : List ℕ) (h : Held) (r : Place) : Type 0 where

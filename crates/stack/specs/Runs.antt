@@ -23,7 +23,7 @@ least w t = valueOf (leastWord w t)
 
 -- the entry at a place
 abbrev pub entry : List ℕ → Place → Minimum
-entry w t = standsAt (least w t) (leastAt w t)
+entry w t = standsAt (least w t) (record { 0 = leastAt w t })
 
 -- the runs of the stack's entries make up the first n rows
 pub record Stacked (w : List ℕ) (n : ℕ) : Type 0 where

@@ -1,7 +1,9 @@
 // The stack of source document 000 in lent words: an entry for each run of marks that share a range minimum.
 ghost use mathlib.Core.Path.{_≡_};
+ghost use Prim.Native.Nat.{_+_, _*_, _<_, _≤_};
+ghost use lib.ListN.{length};
 ghost use Rattle.history.specs.Minima.{takesOver};
-ghost use Rattle.stack.specs.Calls.{Lowered, Pushed, Sought, Looked};
+ghost use Rattle.stack.specs.Calls.{TakenOver, Topped, Lowered, Pushed, Topping, Sought, Looked};
 use history::Minimum;
 use history::Position;
 use layout::Held;
@@ -20,26 +22,44 @@ pub fn takes_over(later: i32, least: i32) -> bool
     later <= least
 }
 
+// The lowest of the places up to the height whose entry a value takes over, or the height where it takes over none.
+fn taken_over(area: &[u64], height: usize, v: i32) -> Place
+    requires { ⌜ (0 < height → 16 + 8 * height ≤ length (now area)) ⌝ }
+    ensures { λ r. ⌜ TakenOver (now (area .entry)) height v r ⌝ }
+{
+    let mut k = height;
+    while 0 < k {
+        let least = words::from_word(area[16 + 8 * (k - 1) + 3]);
+        if takes_over(v, least) {
+            k -= 1;
+        } else {
+            return Place(k);
+        }
+    }
+    Place(k)
+}
+
+// The entry at a place becomes a minimum, and is the top from then on. Its run starts where it did.
+fn set_top(area: &mut [u64], top: Place, m: Minimum)
+    requires { ⌜ 16 + 8 * top .0 + 4 < length (now area) ⌝ }
+    ensures { λ r. ⌜ Topped (now (area .entry)) (now (area .exit)) top m ⌝ }
+{
+    let t = top.0;
+    let place = m.place;
+    area[16 + 8 * t + 3] = words::to_word(m.value);
+    area[16 + 8 * t + 4] = place.0 as u64;
+    area[2] = (t + 1) as u64;
+}
+
 // A value comes. The entries that it takes over are popped, and the lowest of them holds it from then on, with all their runs.
 pub fn lower(area: &mut [u64], m: Minimum)
     ensures { λ r. ⌜ Lowered (now (area .entry)) (now (area .exit)) m ⌝ }
 {
     let head = layout::read_header(area);
     let height = head.height;
-    let v = m.value;
-    let place = m.place;
-    let mut k = height;
-    while 0 < k {
-        let least = words::from_word(area[16 + 8 * (k - 1) + 3]);
-        if !takes_over(v, least) {
-            break;
-        }
-        k -= 1;
-    }
-    if k < height {
-        area[16 + 8 * k + 3] = words::to_word(v);
-        area[16 + 8 * k + 4] = place.0 as u64;
-        area[2] = (k + 1) as u64;
+    let top = taken_over(area, height, m.value);
+    if top.0 < height {
+        set_top(area, top, m);
     }
 }
 
@@ -50,14 +70,26 @@ pub fn push(area: &mut [u64], m: Minimum)
     let head = layout::read_header(area);
     let height = head.height;
     let rows = head.rows;
-    let place = m.place;
     if height < rows {
-        let at = 16 + 8 * height;
-        area[at + 3] = words::to_word(m.value);
-        area[at + 4] = place.0 as u64;
-        area[at + 5] = (rows - 1) as u64;
-        area[2] = (height + 1) as u64;
+        area[16 + 8 * height + 5] = (rows - 1) as u64;
+        set_top(area, Place(height), m);
     }
+}
+
+// Whether the top entry's least value stands at a position.
+pub fn tops(area: &[u64], p: Position) -> bool
+    ensures { λ r. ⌜ Topping (now (area .entry)) p r ⌝ }
+{
+    let head = layout::read_header(area);
+    let height = head.height;
+    if height == 0 {
+        return false;
+    }
+    let at = area[16 + 8 * (height - 1) + 4];
+    if at == p.0 as u64 {
+        return true;
+    }
+    false
 }
 
 // The place whose run has a row: a predecessor search over the runs' first rows (source document 000, Theorem 3).
@@ -70,7 +102,8 @@ pub fn covering(area: &[u64], held: Held) -> Place
     let mut high = head.height;
     while low + 1 < high {
         let middle = (low + high) / 2;
-        if area[16 + 8 * middle + 5] as usize <= h {
+        let first = area[16 + 8 * middle + 5] as usize;
+        if first <= h {
             low = middle;
         } else {
             high = middle;

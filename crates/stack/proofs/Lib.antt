@@ -1,0 +1,10 @@
+pub mod Places
+pub mod Rows
+pub mod Halving
+pub mod Looking
+pub mod Topmost
+pub mod Popping
+pub mod Alike
+pub mod Growth
+pub mod ValueComes
+pub mod RowComes

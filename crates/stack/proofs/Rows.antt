@@ -1,0 +1,70 @@
+-- Each row of a stack is in one run and in no other, so the stack has one minimum for it; the top's run has the last row, and takes
+-- in the next one.
+use mathlib.Core.Path.{_≡_, sym, ap, _∙_, refl}
+use mathlib.Core.List.{List}
+use mathlib.Core.Logic.{⊎-elim}
+use Prim.Native.Nat.{ℕ, zero, suc, _+_, _-_, _<_, _≤_}
+use native.Mathlib.Numerals.{add-one}
+use native.Mathlib.Omega.{arith}
+use Rattle.history.specs.declared.Minimum.{Minimum}
+use Rattle.layout.specs.declared.Held.{Held}
+use Rattle.layout.specs.declared.Place.{Place}
+use Rattle.layout.specs.Layout.{rows, height, first}
+use Rattle.words.proofs.Offset.{lt-or-ge}
+use Rattle.stack.specs.Runs.{above, entry, Stacked, Covers, Rests}
+use Rattle.stack.proofs.Places.{first-rises}
+
+module _ {w : List ℕ} {n : ℕ} (s : Stacked w n) where
+  -- of two runs with the same row, neither is below the other
+  not-below : (h : Held) (a b : Place) → Covers w a h → Covers w b h → a .0 < b .0 → ⊥
+  not-below h a b x y l = omega (arith, x .to (omega arith), first-rises s (above a) b (omega arith) (y .on))
+
+  -- no two runs share a row
+  pub covers-unique : (h : Held) (a b : Place) → Covers w a h → Covers w b h → a ≡ b
+  covers-unique h a b x y =
+      let l : a .0 < b .0 → ⊥ = not-below h a b x y in
+      let r : b .0 < a .0 → ⊥ = not-below h b a y x in
+      ap (λ (i : ℕ). record { 0 = i })
+      (⊎-elim (λ p. absurd (l p)) (λ p. ⊎-elim (λ q. absurd (r q)) (λ q. omega arith) (lt-or-ge (b .0) (a .0))) (lt-or-ge (a .0) (b .0)))
+
+  -- the stack has one minimum for a row
+  pub rests-unique : {h : Held} {d e : Minimum} → Rests w h d → Rests w h e → d ≡ e
+  rests-unique {h} x y = sym (x .same) ∙ ap (entry w) (covers-unique h (x .place) (y .place) (x .covers) (y .covers)) ∙ y .same
+
+  -- down from a place below which the row must lie, to the place whose run has it
+  down : (h : Held) (t : ℕ) → t < height w → (t + 1 < height w → h .0 < first w (record { 0 = t + 1 })) → (p : Place) × Covers w p h
+  down h zero l to = (record { 0 = 0 }, record { on = l; from = omega (arith, s .bottom l); to = to })
+  down h (suc t) l to =
+      ⊎-elim
+      (λ (m : h .0 < first w (record { 0 = suc t })). down h t (omega arith) (λ z. rw add-one m))
+      (λ (m : first w (record { 0 = suc t }) ≤ h .0). (record { 0 = suc t }, record { on = l; from = m; to = to }))
+      (lt-or-ge (h .0) (first w (record { 0 = suc t })))
+
+  -- the stack has a minimum for each of its rows
+  pub rests-some : (h : Held) → h .0 < n → (d : Minimum) × Rests w h d
+  rests-some h l =
+      let c = down h (height w - 1) (omega (arith, s .some (omega arith))) (λ z. absurd (omega arith)) in
+      (entry w (c .0), record { place = c .0; covers = c .1; same = refl })
+
+  -- the top's run has the last row, and the next one when it comes
+  pub top-rests : (t : Place) → t .0 + 1 ≡ height w → (h : Held) → n ≤ h .0 + 1 → Rests w h (entry w t)
+  top-rests t e h l =
+      record {
+        place = t;
+        covers = record { on = omega arith; from = omega (arith, s .below t (omega arith)); to = λ m. absurd (omega arith) };
+        same = refl;
+      }
+
+  -- a row that comes joins the top's run
+  pub joined : rows w ≡ n + 1 → 0 < n → Stacked w (n + 1)
+  joined e l =
+      record {
+        fits = s .fits;
+        within = omega arith;
+        low = omega arith;
+        some = λ m. s .some l;
+        bottom = s .bottom;
+        below = λ t m. omega (arith, s .below t m);
+        rising = s .rising;
+        ordered = s .ordered;
+      }
