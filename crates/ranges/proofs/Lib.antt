@@ -1,0 +1,4 @@
+pub mod Growth
+pub mod Upkeep
+pub mod Advancing
+pub mod Compaction

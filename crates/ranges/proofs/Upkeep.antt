@@ -1,0 +1,110 @@
+-- What the words hold after an opening, a value and a close, and what a query reads off them.
+use mathlib.Core.Path.{_≡_, refl, sym, ap, _∙_}
+use mathlib.Core.List.{List, [], _∷_, _++_}
+use Prim.Native.Nat.{ℕ, _+_, _*_, _-_, _<_, _≤_}
+use native.Mathlib.Omega.{arith}
+use lib.IntN.{ℤ}
+use lib.ListN.{length, getD, length-append}
+use Rattle.history.specs.declared.Position.{Position}
+use Rattle.history.specs.declared.Minimum.{Minimum}
+use Rattle.history.specs.Minima.{minimum, standsAt, next, presentAt}
+use Rattle.history.specs.Bookkeeper.{without}
+use Rattle.history.proofs.Lowest.{minimum-more, minimum-least}
+use Rattle.layout.specs.declared.Held.{Held}
+use Rattle.layout.specs.declared.Place.{Place}
+use Rattle.layout.specs.Layout.{rows, capacity, height, position, leastWord, leastAt, first, Room}
+use Rattle.table.specs.Marks.{Linked, activeIn, Live}
+use Rattle.table.specs.Calls.{Released, Cleared}
+use Rattle.table.proofs.Stays.{Apart, linked-apart, active-apart}
+use Rattle.stack.specs.declared.Low.{Low}
+use Rattle.stack.specs.declared.Low.the-variants.{At, Nothing}
+use Rattle.stack.specs.Runs.{Stacked, Rests}
+use Rattle.stack.specs.Calls.{Lowered, Looked}
+use Rattle.stack.proofs.Alike.{Alike, stacked-same, rests-same}
+use Rattle.ranges.specs.Holding.{Holds, positionOf}
+
+-- an empty table and an empty stack hold the empty history
+pub cleared-holds : (w v : List ℕ) (c : ℕ) → Cleared w v c → Room w c → Holds v [] []
+cleared-holds w v c q r =
+    let n = q .none r in
+    let k = q .linked r in
+    record {
+      short = omega arith;
+      linked = k;
+      stacked = record {
+        fits = k .fits;
+        within = omega arith;
+        low = k .fits .high;
+        some = λ z. absurd (omega arith);
+        bottom = λ z. absurd (omega (arith, q .flat r));
+        below = λ t z. absurd (omega (arith, q .flat r));
+        rising = λ t z. absurd (omega (arith, q .flat r));
+        ordered = λ t z. absurd (omega (arith, q .flat r));
+      };
+      marks = rw n;
+      after = λ h z. absurd (omega arith);
+      before = λ h z. absurd (omega arith);
+      minima = λ h z. absurd (omega arith);
+    }
+
+-- a value lowers each mark's minimum, as it does the history's
+pub lowered-holds : (w v : List ℕ) (values : List ℤ) (active : List Position) (x : ℤ) → Lowered w v (standsAt x (next (presentAt values))) → Holds w values active
+    → length values < 4294967295 → Holds v (values ++ (x ∷ [])) active
+lowered-holds w v values active x q k f =
+    let s = q .stacked (rows w) (k .stacked) in
+    record {
+      short = omega (arith, length-append values (x ∷ []));
+      linked = linked-apart w v beside (q .long) (rw same-rows (s .low)) (k .linked);
+      stacked = rw same-rows s;
+      marks = active-apart w v beside ∙ k .marks;
+      after = λ h b. rw (same-position h) (k .after h (rw same-rows at b));
+      before = λ h b. rw (same-position h) (omega (arith, k .before h (rw same-rows at b), length-append values (x ∷ [])));
+      minima = λ h b.
+          let c : h .0 < rows w = rw same-rows at b in
+          rw (same-position h, minimum-more values x (positionOf w h) (k .after h c) (k .before h c))
+          (q .lowers (rows w) (k .stacked) h _ (k .minima h c));
+    }
+  where
+    beside : Apart w v
+    beside i n e = q .kept i (record { height = n; entries = λ t _ _. e t })
+
+    same-rows : rows v ≡ rows w
+    same-rows = beside 0 (λ e. omega arith) (λ t. ((λ e. omega arith), (λ e. omega arith), (λ e. omega arith)))
+
+    same-position : (h : Held) → position v h ≡ position w h
+    same-position h = beside (16 + 8 * h .0) (λ e. omega arith) (λ t. ((λ e. omega arith), (λ e. omega arith), (λ e. omega arith)))
+
+-- a close strikes a mark, and leaves every row's minimum
+pub released-holds : (w v : List ℕ) (values : List ℤ) (active : List Position) (g : Held) → Released w v g → Holds w values active → g .0 < rows w
+    → Holds v values (without (positionOf w g) active)
+released-holds w v values active g q k l =
+    record {
+      short = k .short;
+      linked = q .linked (k .linked);
+      stacked = rw same-rows (stacked-same same-height stack (k .stacked) (q .linked (k .linked) .fits) (omega (arith, same-rows)));
+      marks = q .active (k .linked) l ∙ ap (without (positionOf w g)) (k .marks);
+      after = λ h b. rw (same-position h) (k .after h (rw same-rows at b));
+      before = λ h b. rw (same-position h) (k .before h (rw same-rows at b));
+      minima = λ h b. rw (same-position h) (rests-same same-height stack (k .minima h (rw same-rows at b)));
+    }
+  where
+    same-rows : rows v ≡ rows w
+    same-rows = q .kept 0 (λ e. omega arith)
+
+    same-position : (h : Held) → position v h ≡ position w h
+    same-position h = q .kept (16 + 8 * h .0) (λ e. omega arith)
+
+    same-height : height v ≡ height w
+    same-height = q .kept 2 (λ e. omega arith)
+
+    stack : Alike w v (height w)
+    stack = record { words = λ t l j a b. q .kept (16 + 8 * t .0 + j) (λ e. omega arith) }
+
+-- what a query reads is the history's minimum, which stands at a position
+pub looked-minimum : (w : List ℕ) (values : List ℤ) (active : List Position) (p : Position) (h : Held) (r : Low) → Looked w h r → Holds w values active
+    → Live w p h → r ≡ At (minimum values p)
+looked-minimum w values active p h r q k l =
+    let e : positionOf w h ≡ p = λ i. record { 0 = l .here i } in
+    let d = minimum-least values (positionOf w h) (k .after h (l .row)) (k .before h (l .row)) in
+    q .found (rows w) (k .stacked) (l .row) (minimum values (positionOf w h)) (k .minima h (l .row)) (omega (arith, d .to, k .short))
+    ∙ ap (λ (i : Position). At (minimum values i)) e

@@ -1,0 +1,113 @@
+// The marks that the lent words hold, each with its range minimum: one more is appended, and a rebuild keeps only the active ones.
+ghost use mathlib.Core.Path.{_≡_};
+ghost use Prim.Native.Nat.{_+_, _*_, _<_, _≤_};
+ghost use lib.ListN.{length};
+ghost use Rattle.ranges.specs.Calls.{Appended, Advanced, Carried, Rebuilt, Spared};
+use history::Minimum;
+use history::Position;
+use layout::Held;
+use layout::Place;
+
+// A run of rows that share a stack entry, as a rebuild comes by it: the place after it, the row after its last, and its minimum.
+pub struct Run {
+    pub next: Place,
+    pub end: usize,
+    pub low: Minimum,
+}
+
+// A mark at a position after all others joins the marks, with its range minimum. Source document 000's Mark: its value is pushed
+// "unless it is there already".
+pub fn append(area: &mut [u64], p: Position, m: Minimum)
+    ensures { λ r. ⌜ Appended (now (area .entry)) (now (area .exit)) p m ⌝ }
+{
+    table::insert(area, p);
+    if stack::tops(area, m.place) {
+        return;
+    }
+    stack::push(area, m);
+}
+
+// The run that has row h, from the one that has the row before it.
+fn advance(area: &[u64], run: Run, h: usize, count: usize, top: usize) -> Run
+    requires { ⌜ (top ≤ count) × (count ≤ 8254) × (16 + 8 * count ≤ length (now area)) ⌝ }
+    ensures { λ r. ⌜ Advanced (now (area .entry)) h count top run r ⌝ }
+{
+    let end = run.end;
+    if h < end {
+        return run;
+    }
+    let next = run.next;
+    let t = next.0;
+    if top <= t {
+        return run;
+    }
+    let value = words::from_word(area[16 + 8 * t + 3]);
+    let at = (area[16 + 8 * t + 4] % 4294967296) as u32;
+    let low = Minimum {
+        value,
+        place: Position(at),
+    };
+    if t + 1 < top {
+        return Run {
+            next: Place(t + 1),
+            end: area[16 + 8 * (t + 1) + 5] as usize,
+            low,
+        };
+    }
+    Run {
+        next: Place(t + 1),
+        end: count,
+        low,
+    }
+}
+
+// A row of a rebuild: it is appended to the rows that stay, if its mark is active.
+fn carry(area: &mut [u64], held: Held, low: Minimum)
+    requires { ⌜ (held .0 < 8254) × (16 + 8 * held .0 + 1 < length (now area)) ⌝ }
+    ensures { λ r. ⌜ Carried (now (area .entry)) (now (area .exit)) held low ⌝ }
+{
+    let h = held.0;
+    if area[16 + 8 * h + 1] != 0 {
+        let p = (area[16 + 8 * h] % 4294967296) as u32;
+        append(area, Position(p), low);
+    }
+}
+
+// Source document 000, section 3.2: the active marks are transferred, in order, to an emptied table with room for as many again.
+// It lies in the same words: a row is written at or below the row that is read.
+pub fn rebuild(area: &mut [u64], active: usize)
+    ensures { λ r. ⌜ Rebuilt (now (area .entry)) (now (area .exit)) active ⌝ }
+{
+    if 4096 < active {
+        return;
+    }
+    let head = layout::read_header(area);
+    let count = head.rows;
+    let top = head.height;
+    table::clear(area, 2 * active + 62);
+    let mut run = Run {
+        next: Place(0),
+        end: 0,
+        low: Minimum {
+            value: 0,
+            place: Position(0),
+        },
+    };
+    let mut h = 0;
+    while h < count {
+        run = advance(area, run, h, count, top);
+        carry(area, Held(h), run.low);
+        h += 1;
+    }
+}
+
+// A row to spare, by a rebuild where all are in use.
+pub fn make_room(area: &mut [u64], active: usize)
+    ensures { λ r. ⌜ Spared (now (area .entry)) (now (area .exit)) active ⌝ }
+{
+    let head = layout::read_header(area);
+    if head.rows < head.capacity {
+        return;
+    }
+    rebuild(area, active);
+}
