@@ -1,0 +1,91 @@
+-- The ways out of a Value.
+use mathlib.Core.Path.{_≡_, refl, sym, ap, _∙_}
+use mathlib.Core.List.{List, [], _∷_, _++_}
+use mathlib.Core.Bool.{Bool, false}
+use Prim.Native.Nat.{ℕ, _+_, _*_, _<_, _≤_}
+use native.Mathlib.Omega.{arith}
+use lib.IntN.{ℤ, pos}
+use lib.ListN.{length, getD, length-append}
+use borrow.Author.Tests.{eq-eqb, ne-eqb}
+use Rattle.history.specs.declared.Standing.the-variants.{Unmarked}
+use Rattle.history.specs.declared.Session.{Session}
+use Rattle.history.specs.declared.Command.the-variants.{Value}
+use Rattle.history.specs.declared.Refusal.the-variants.{LastPosition}
+use Rattle.history.specs.declared.Reply.the-variants.{Accepted}
+use Rattle.history.specs.Minima.{standsAt, next}
+use Rattle.history.specs.Refusals.{refusal}
+use Rattle.history.specs.Bookkeeper.{History, sessionOf, isActive, valued}
+use Rattle.history.proofs.Lowest.{lastOf-more}
+use Rattle.layout.specs.declared.Held.{Held}
+use Rattle.layout.specs.Layout.{rows, capacity, position}
+use Rattle.stack.specs.Calls.{Lowered, Beside}
+use Rattle.ranges.specs.Holding.{Holds}
+use Rattle.ranges.proofs.Upkeep.{lowered-holds}
+use Rattle.engine.specs.Promises.{sessionAfter}
+use Rattle.engine.specs.Keeping.{Keeps, Represents}
+use Rattle.engine.specs.Calls.{Does, refusedWith}
+use Rattle.engine.proofs.Steps.{refusal-own}
+use Rattle.engine.proofs.Ways.{does-due, does-accepted, own-of}
+
+module _ (s : Session) (w : List ℕ) (v : ℤ) (z : s .words ≡ 0 → ⊥) (o : length w ≡ s .words) where
+  -- no position is left
+  pub value-last : s .present .0 ≡ 4294967295 → Does (Value v) s w w (refusedWith s LastPosition)
+  value-last e = does-due (Value v) s w LastPosition (λ b. rw (refusal-own s (length w) b (Value v) z o, eq-eqb (s .present .0) 4294967295 e))
+
+  -- the value is the next position's, and each mark's minimum is lowered by it
+  module _ (after : List ℕ) (n : s .present .0 ≡ 4294967295 → ⊥) (q : Lowered w after (standsAt v (next (s .present)))) where
+    none-due : (b : Bool) → refusal s (length w) b (Value v) ≡ 0
+    none-due b = rw (refusal-own s (length w) b (Value v) z o, ne-eqb (s .present .0) 4294967295 n)
+
+    beside : (i : ℕ) → (i ≡ 2 → ⊥) → ((t : ℕ) → t < capacity w → (i ≡ 16 + 8 * t + 3 → ⊥) × (i ≡ 16 + 8 * t + 4 → ⊥) × (i ≡ 16 + 8 * t + 5 → ⊥))
+        → getD after i 0 ≡ getD w i 0
+    beside i m e = q .kept i (record { height = m; entries = λ t a b. e t b })
+
+    same-rows : rows after ≡ rows w
+    same-rows = beside 0 (λ e. omega arith) (λ t b. ((λ e. omega arith), (λ e. omega arith), (λ e. omega arith)))
+
+    same-position : (g : Held) → position after g ≡ position w g
+    same-position g = beside (16 + 8 * g .0) (λ e. omega arith) (λ t b. ((λ e. omega arith), (λ e. omega arith), (λ e. omega arith)))
+
+    module _ (h : History) (lent : List ℕ) (e : s ≡ sessionOf h) (k : Keeps h lent w) where
+      present-is : s .present .0 ≡ length (h .values)
+      present-is = ap (λ (x : Session). x .present .0) e
+
+      keeps : Keeps (valued h v) lent after
+      keeps = record {
+        holds = lowered-holds w after (h .values) (h .active) v
+            (rw (ap (λ (x : ℕ). standsAt v (record { 0 = x + 1 })) present-is) at q) (k .holds) (omega (arith, n, present-is, k .holds .short));
+        rest = λ i m. beside i (λ x. omega arith) (λ t b. ((λ x. omega (arith, k .bound)), (λ x. omega (arith, k .bound)), (λ x. omega (arith, k .bound)))) ∙ k .rest i m;
+        bound = rw (beside 1 (λ x. omega arith) (λ t b. ((λ x. omega arith), (λ x. omega arith), (λ x. omega arith)))) (k .bound);
+        peaked = k .peaked;
+        limited = k .limited;
+        few = k .few;
+        wide = k .wide;
+        some = λ x. omega (arith, length-append (h .values) (v ∷ []));
+        fresh = λ x g l. rw (same-position g) (omega (arith, length-append (h .values) (v ∷ []), k .holds .before g (rw same-rows at l)));
+      }
+
+      session-is : sessionAfter s (Value v) (s .active) ≡ sessionOf (valued h v)
+      session-is =
+          ap (λ (x : Session). sessionAfter x (Value v) (x .active)) e
+          ∙ (λ i. record {
+            words = h .words;
+            limit = h .limit;
+            present = record { 0 = sym (length-append (h .values) (v ∷ [])) i };
+            last = sym (lastOf-more (h .values) v) i;
+            active = length (h .active);
+            standing = Unmarked;
+          })
+
+    pub value-done : Does (Value v) s w after (record { reply = Accepted; session = sessionAfter s (Value v) (s .active) })
+    value-done =
+        does-accepted (Value v) s w false (λ _. tt) (q .long) (none-due false)
+        (record { counted = s .active; found = standsAt v (s .present); tells = refl; session = refl; words = tt })
+        (λ h lent r. (
+          none-due (isActive h (Value v)),
+          refl,
+          record {
+            session = session-is h lent (r .session) (own-of (Value v) s w z o r);
+            own = λ _ _. keeps h lent (r .session) (own-of (Value v) s w z o r);
+          },
+        ))

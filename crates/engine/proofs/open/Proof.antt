@@ -1,0 +1,24 @@
+-- `engine::open` meets its contract: an area too short is left as it is, and in another the table is emptied.
+use native.Mathlib.Omega.{arith}
+use Rattle.engine.proofs.Openings.{open-refused, open-done}
+use borrow.Author.Needs.{needs}
+use Rattle.engine.proofs.open.Statement.{statement}
+use Rattle.engine.proofs.open.Tie as tie
+
+returns : tie.Need-returns
+returns c = open-refused _ (omega arith)
+
+clear-requires : tie.Need-clear-requires
+clear-requires c κs = search needs
+
+limit-of-requires : tie.Need-limit-of-requires
+limit-of-requires c κs = search needs
+
+same-length : tie.Need-same-length
+same-length c = search needs
+
+returns-2 : tie.Need-returns-2
+returns-2 c = open-done _ _ _ (omega arith) (c .limit-of .ensures) (c .before .before .before .clear .ensures)
+
+pub open-spec : {M : Type 1} → statement M
+open-spec = tie.close (tie.spec returns clear-requires limit-of-requires same-length returns-2)

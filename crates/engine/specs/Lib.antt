@@ -1,0 +1,4 @@
+pub mod Promises
+pub mod Keeping
+pub mod Calls
+pub mod Demand

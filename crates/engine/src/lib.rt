@@ -1,0 +1,249 @@
+// The level engine: an opening and the four commands of source document 000, over words that the caller lends.
+// The session goes in with each call and a new one comes out; all else that outlives a call is in the words.
+ghost use mathlib.Core.Path.{_≡_};
+ghost use Prim.Native.Nat.{_<_};
+ghost use lib.ListN.{length};
+ghost use Rattle.history.specs.declared.Command.the-variants.{Value, Mark, Query, Close};
+ghost use Rattle.history.specs.declared.Standing.the-variants.{Unmarked};
+ghost use Rattle.history.specs.Bookkeeper.{limitOf, closedAt};
+ghost use Rattle.engine.specs.Calls.{Opens, Does, Sighted, refusedWith};
+use history::Answer;
+use history::Minimum;
+use history::Position;
+use history::Refusal;
+use history::Reply;
+use history::Session;
+use history::Standing;
+use layout::Held;
+use stack::Low;
+use table::Found;
+
+// How many marks an area of n words is opened for: K of document 01.
+fn limit_of(n: usize) -> usize
+    ensures { λ r. ⌜ r ≡ limitOf n ⌝ }
+{
+    if n < 512 {
+        return 0;
+    }
+    let k = (n - 512) / 64;
+    if k < 4096 {
+        return k;
+    }
+    4096
+}
+
+fn refuse(s: Session, why: Refusal) -> Answer
+    ensures { λ r. ⌜ r ≡ refusedWith s why ⌝ }
+{
+    Answer {
+        reply: Reply::Refused(why),
+        session: s,
+    }
+}
+
+// An area is opened, whatever its words hold. Only words 0 to 511 are written.
+pub fn open(area: &mut [u64]) -> Answer
+    ensures { λ r. ⌜ Opens (now (area .entry)) (now (area .exit)) r ⌝ }
+{
+    let n = area.len();
+    if n < 576 {
+        return Answer {
+            reply: Reply::Refused(Refusal::AreaTooShort),
+            session: Session {
+                words: 0,
+                limit: 0,
+                present: Position(0),
+                last: 0,
+                active: 0,
+                standing: Standing::None,
+            },
+        };
+    }
+    table::clear(area, 62);
+    Answer {
+        reply: Reply::Accepted,
+        session: Session {
+            words: n,
+            limit: limit_of(n),
+            present: Position(0),
+            last: 0,
+            active: 0,
+            standing: Standing::None,
+        },
+    }
+}
+
+// The next value of the stream: it lowers each active mark's range minimum that is not below it.
+pub fn value(s: Session, area: &mut [u64], v: i32) -> Answer
+    ensures { λ r. ⌜ Does (Value v) s (now (area .entry)) (now (area .exit)) r ⌝ }
+{
+    let words = s.words;
+    if words == 0 {
+        return refuse(s, Refusal::Unopened);
+    }
+    if area.len() != words {
+        return refuse(s, Refusal::OtherLength);
+    }
+    let present = s.present;
+    if present.0 == 4294967295 {
+        return refuse(s, Refusal::LastPosition);
+    }
+    let next = Position(present.0 + 1);
+    stack::lower(
+        area,
+        Minimum {
+            value: v,
+            place: next,
+        },
+    );
+    Answer {
+        reply: Reply::Accepted,
+        session: Session {
+            words,
+            limit: s.limit,
+            present: next,
+            last: v,
+            active: s.active,
+            standing: Standing::Unmarked,
+        },
+    }
+}
+
+// A Mark of a present position that is neither marked nor closed. Nothing is written before it is known to be accepted.
+fn mark_unmarked(s: Session, area: &mut [u64]) -> Answer
+    requires { ⌜ (s .words ≡ 0 → ⊥) × (length (now area) ≡ s .words) × (s .standing ≡ Unmarked) ⌝ }
+    ensures { λ r. ⌜ Does Mark s (now (area .entry)) (now (area .exit)) r ⌝ }
+{
+    let active = s.active;
+    if active == s.limit {
+        return refuse(s, Refusal::Full);
+    }
+    if 4096 <= active {
+        return refuse(s, Refusal::Full);
+    }
+    let present = s.present;
+    ranges::make_room(area, active);
+    ranges::append(
+        area,
+        present,
+        Minimum {
+            value: s.last,
+            place: present,
+        },
+    );
+    Answer {
+        reply: Reply::Accepted,
+        session: Session {
+            words: s.words,
+            limit: s.limit,
+            present,
+            last: s.last,
+            active: active + 1,
+            standing: Standing::Marked,
+        },
+    }
+}
+
+// The present position becomes an active mark.
+pub fn mark(s: Session, area: &mut [u64]) -> Answer
+    ensures { λ r. ⌜ Does Mark s (now (area .entry)) (now (area .exit)) r ⌝ }
+{
+    let words = s.words;
+    if words == 0 {
+        return refuse(s, Refusal::Unopened);
+    }
+    if area.len() != words {
+        return refuse(s, Refusal::OtherLength);
+    }
+    let standing = s.standing;
+    match standing {
+        Standing::None => refuse(s, Refusal::NothingToMark),
+        Standing::Unmarked => mark_unmarked(s, area),
+        Standing::Marked => refuse(s, Refusal::AlreadyMarked),
+        Standing::Closed => refuse(s, Refusal::AlreadyClosed),
+    }
+}
+
+// The row of the active mark at a position, which is none before the first or after the present one.
+fn seek(s: Session, area: &[u64], i: Position) -> Found
+    ensures { λ r. ⌜ Sighted s (now (area .entry)) i r ⌝ }
+{
+    let present = s.present;
+    if i.0 == 0 {
+        return Found::Nothing;
+    }
+    if present.0 < i.0 {
+        return Found::Nothing;
+    }
+    table::find(area, i)
+}
+
+// The range minimum since an active mark. The area is only read.
+pub fn query(s: Session, area: &[u64], i: Position) -> Answer
+    ensures { λ r. ⌜ Does (Query i) s (now (area .entry)) (now (area .entry)) r ⌝ }
+{
+    let words = s.words;
+    if words == 0 {
+        return refuse(s, Refusal::Unopened);
+    }
+    if area.len() != words {
+        return refuse(s, Refusal::OtherLength);
+    }
+    let found = seek(s, area, i);
+    let Found::At(held) = found else {
+        return refuse(s, Refusal::NotActive);
+    };
+    let low = stack::minimum_of(area, held);
+    let Low::At(minimum) = low else {
+        return refuse(s, Refusal::NotActive);
+    };
+    Answer {
+        reply: Reply::Lowest(minimum),
+        session: s,
+    }
+}
+
+// The standing after a Close of position i.
+fn closed_at(s: Session, i: Position) -> Standing
+    ensures { λ r. ⌜ r ≡ closedAt (s .present) i (s .standing) ⌝ }
+{
+    let present = s.present;
+    if i.0 == present.0 {
+        return Standing::Closed;
+    }
+    s.standing
+}
+
+// An active mark is forgotten.
+pub fn close(s: Session, area: &mut [u64], i: Position) -> Answer
+    ensures { λ r. ⌜ Does (Close i) s (now (area .entry)) (now (area .exit)) r ⌝ }
+{
+    let words = s.words;
+    if words == 0 {
+        return refuse(s, Refusal::Unopened);
+    }
+    if area.len() != words {
+        return refuse(s, Refusal::OtherLength);
+    }
+    let found = seek(s, area, i);
+    let Found::At(held) = found else {
+        return refuse(s, Refusal::NotActive);
+    };
+    let active = s.active;
+    if active == 0 {
+        return refuse(s, Refusal::NotActive);
+    }
+    let present = s.present;
+    table::release(area, held);
+    Answer {
+        reply: Reply::Accepted,
+        session: Session {
+            words,
+            limit: s.limit,
+            present,
+            last: s.last,
+            active: active - 1,
+            standing: closed_at(s, i),
+        },
+    }
+}
