@@ -8,6 +8,7 @@ ghost use Rattle.history.specs.declared.Standing.the-variants.{Unmarked};
 ghost use Rattle.history.specs.Bookkeeper.{limitOf, closedAt};
 ghost use Rattle.engine.specs.Calls.{Opens, Does, Sighted, refusedWith};
 use history::Answer;
+use history::Command;
 use history::Minimum;
 use history::Position;
 use history::Refusal;
@@ -245,5 +246,17 @@ pub fn close(s: Session, area: &mut [u64], i: Position) -> Answer
             active: active - 1,
             standing: closed_at(s, i),
         },
+    }
+}
+
+// Any command.
+pub fn apply(s: Session, area: &mut [u64], command: Command) -> Answer
+    ensures { λ r. ⌜ Does command s (now (area .entry)) (now (area .exit)) r ⌝ }
+{
+    match command {
+        Command::Value(v) => value(s, area, v),
+        Command::Mark => mark(s, area),
+        Command::Query(i) => query(s, area, i),
+        Command::Close(i) => close(s, area, i),
     }
 }
