@@ -6,3 +6,4 @@ pub mod Marking
 pub mod Asked
 pub mod Theorem
 pub mod Tied
+pub mod Played

@@ -28,7 +28,7 @@ use Rattle.table.proofs.Active.{among-live}
 use Rattle.engine.specs.Promises.{AfterRefusal, AfterAcceptance, shows, Settled}
 use Rattle.engine.specs.Keeping.{AsLent, Keeps, Represents}
 use Rattle.engine.specs.Calls.{Opens, Does}
-use Rattle.engine.specs.Demand.{Call, OpeningSays, CallSays, isOwn, wordsAfter, Made, Agrees, AllAgree, OpeningAgrees, Demand3, Refuses}
+use Rattle.engine.specs.Demand.{Call, OpeningSays, CallSays, isOwn, wordsAfter, Made, Agrees, AllAgree, OpeningAgrees, Demand3, Demand1}
 use Rattle.engine.proofs.Steps.{refusal-unopened, refusal-other, refusal-own, step-refused, step-accepted}
 
 -- no command alters the opened length
@@ -251,7 +251,7 @@ module _ (opened : OpeningSays) (did : CallSays) (opens : (first left : List ℕ
             }) m,
       )
 
-  pub demand-1 : Refuses opened did
+  pub demand-1 : Demand1 opened did
   demand-1 = record {
     opening = λ first left o q z.
         let p = opens first left o q in

@@ -11,7 +11,7 @@ use Rattle.history.specs.declared.Command.{Command}
 use Rattle.history.specs.declared.Command.the-variants.{Value, Mark, Query, Close}
 use Rattle.history.specs.declared.Answer.{Answer}
 use Rattle.engine.specs.Calls.{Opens, Does}
-use Rattle.engine.specs.Demand.{Call, OpeningSays, CallSays, Demand3, Refuses}
+use Rattle.engine.specs.Demand.{Call, OpeningSays, CallSays, Demand3, Demand1}
 use Rattle.engine.proofs.Theorem as theorem
 use Rattle.engine.proofs.open.Reads as open-reads
 use Rattle.engine.proofs.value.Reads as value-reads
@@ -47,7 +47,7 @@ does s (Query i) lent left r (κs, x, d, e) = rw e d
 does s (Close i) lent left r (κs, x, d) = d
 
 -- DEMAND 1, with what the checker shows of every function: it stays in bounds, and it ends
-pub demand-1 : Refuses Opened Called
+pub demand-1 : Demand1 Opened Called
 demand-1 = theorem.demand-1 Opened Called opens (λ s c. does s (c .command) (c .lent) (c .left) (c .answer))
 
 -- DEMAND 3, and demand 2 in it

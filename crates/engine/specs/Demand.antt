@@ -92,7 +92,7 @@ Demand3 opened did =
 
 -- DEMAND 1, of every session and every words, whether or not a call returned them. That no word outside the ends is read or written and that each
 -- call ends is what the checker shows of every function
-pub record Refuses (opened : OpeningSays) (did : CallSays) : Type 0 where
+pub record Demand1 (opened : OpeningSays) (did : CallSays) : Type 0 where
   -- "a refusal changes no word of the memory and nothing in the session"
   pub opening : (first left : List ℕ) (o : Answer) → opened first left o → (told (o .reply) .number ≡ 0 → ⊥)
       → (left ≡ first) × (o .session ≡ sessionOf (blank 0 0))

@@ -2,3 +2,4 @@ pub mod Promises
 pub mod Keeping
 pub mod Calls
 pub mod Demand
+pub mod Playing

@@ -1,3 +1,4 @@
 pub mod Order
 pub mod Choice
 pub mod Lowest
+pub mod Worked

@@ -2,3 +2,4 @@ pub mod Minima
 pub mod Replies
 pub mod Refusals
 pub mod Bookkeeper
+pub mod Examples
