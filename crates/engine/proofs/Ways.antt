@@ -6,7 +6,10 @@ use mathlib.Core.List.{List}
 use mathlib.Core.Logic.{_⊎_, inl, inr}
 use Prim.Native.Nat.{ℕ}
 use native.Mathlib.Omega.{arith}
+use lib.IntN.{ℤ}
 use lib.ListN.{length}
+use Rattle.history.specs.declared.Position.{Position}
+use Rattle.history.specs.declared.Standing.{Standing}
 use Rattle.history.specs.declared.Session.{Session}
 use Rattle.history.specs.declared.Command.{Command}
 use Rattle.history.specs.declared.Command.the-variants.{Value, Mark, Query, Close}
@@ -112,3 +115,14 @@ does-full s w e n = record {
   tells = λ h lent r. absurd (n h lent r);
   represents = λ h lent r. absurd (n h lent r);
 }
+
+-- a session whose fields that may change are equal, one by one
+pub same-session : {n k : ℕ} {p q : Position} {l m : ℤ} {a b : ℕ} {j g : Standing} → p ≡ q → l ≡ m → a ≡ b → j ≡ g
+    → _≡_ {A = Session} (record { words = n; limit = k; present = p; last = l; active = a; standing = j })
+    (record { words = n; limit = k; present = q; last = m; active = b; standing = g })
+same-session {n} {k} p l a j = λ i. record { words = n; limit = k; present = p i; last = l i; active = a i; standing = j i }
+
+-- an answer with the session it should have
+pub does-with : {c : Command} {s : Session} {w after : List ℕ} {a : Reply} {t u : Session} → t ≡ u → Does c s w after (record { reply = a; session = u })
+    → Does c s w after (record { reply = a; session = t })
+does-with e d = rw e d

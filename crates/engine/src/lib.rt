@@ -5,6 +5,7 @@ ghost use Prim.Native.Nat.{_<_};
 ghost use lib.ListN.{length};
 ghost use Rattle.history.specs.declared.Command.the-variants.{Value, Mark, Query, Close};
 ghost use Rattle.history.specs.declared.Standing.the-variants.{Unmarked};
+ghost use Rattle.history.specs.Minima.{standsAt};
 ghost use Rattle.history.specs.Bookkeeper.{limitOf, closedAt};
 ghost use Rattle.engine.specs.Calls.{Opens, Does, Sighted, refusedWith};
 use history::Answer;
@@ -110,6 +111,17 @@ pub fn value(s: Session, area: &mut [u64], v: i32) -> Answer
     }
 }
 
+// The range minimum of a mark at the present position: the last value, there.
+fn at_present(s: Session) -> Minimum
+    ensures { λ r. ⌜ r ≡ standsAt (s .last) (s .present) ⌝ }
+{
+    let present = s.present;
+    Minimum {
+        value: s.last,
+        place: present,
+    }
+}
+
 // A Mark of a present position that is neither marked nor closed. Nothing is written before it is known to be accepted.
 fn mark_unmarked(s: Session, area: &mut [u64]) -> Answer
     requires { ⌜ (s .words ≡ 0 → ⊥) × (length (now area) ≡ s .words) × (s .standing ≡ Unmarked) ⌝ }
@@ -124,14 +136,7 @@ fn mark_unmarked(s: Session, area: &mut [u64]) -> Answer
     }
     let present = s.present;
     ranges::make_room(area, active);
-    ranges::append(
-        area,
-        present,
-        Minimum {
-            value: s.last,
-            place: present,
-        },
-    );
+    ranges::append(area, present, at_present(s));
     Answer {
         reply: Reply::Accepted,
         session: Session {

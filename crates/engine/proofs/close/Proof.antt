@@ -1,6 +1,7 @@
 -- `engine::close` meets its contract: one law for each way out.
+use mathlib.Core.Path.{refl}
 use native.Mathlib.Omega.{arith}
-use Rattle.engine.proofs.Ways.{does-unopened, does-other}
+use Rattle.engine.proofs.Ways.{does-unopened, does-other, same-session, does-with}
 use Rattle.engine.proofs.Asked.{a-close, asked-nothing, close-lost, close-done}
 use borrow.Author.Needs.{needs}
 use mir.Facts.{toZ-ofZ}
@@ -67,7 +68,8 @@ returns-5 : tie.Need-returns-5
 returns-5 c =
     let b = c .before .before .before .before in
     let f = b .before .before .before .before .before in
-    rw (c .before .closed-at .ensures, toZ-ofZ (record { sfits = c .struct-told .given .1 .1 .1 .0 .1 }))
+    does-with
+    (same-session refl (toZ-ofZ (record { sfits = c .struct-told .given .1 .1 .1 .0 .1 })) (omega arith) (c .before .closed-at .ensures))
     (close-done _ _ _ (omega arith) (omega arith) _ _ (f .before .before .seek .ensures) (f .found .given .1) _ (b .release .ensures) (omega arith))
 
 pub close-spec : {M : Type 1} → statement M

@@ -1,10 +1,10 @@
 -- `engine::mark_unmarked` meets its contract: full, no history's session, or a row is spared and the position appended.
+use mathlib.Core.Path.{refl}
 use native.Mathlib.Omega.{arith}
-use Rattle.engine.proofs.Marking.{mark-full, mark-foreign, mark-done}
 use borrow.Author.Needs.{needs}
-use mir.Syntax.{w32}
-use mir.Val.{SFits}
 use mir.Facts.{toZ-ofZ}
+use Rattle.engine.proofs.Ways.{same-session, does-with}
+use Rattle.engine.proofs.Marking.{mark-full, mark-foreign, mark-done}
 use Rattle.engine.proofs.mark_unmarked.Statement.{statement}
 use Rattle.engine.proofs.mark_unmarked.Tie as tie
 
@@ -27,6 +27,9 @@ returns-2 c =
 make-room-requires : tie.Need-make-room-requires
 make-room-requires c κs = search needs
 
+at-present-requires : tie.Need-at-present-requires
+at-present-requires c κs = search needs
+
 append-requires : tie.Need-append-requires
 append-requires c κs = search needs
 
@@ -38,12 +41,11 @@ same-length c = search needs
 
 returns-3 : tie.Need-returns-3
 returns-3 c =
-    let r = c .before .before .before .before .before .before .before .before in
+    let a = c .before .before .before in
+    let r = a .before .before .before .before .before in
     let p = r .before .before .before .before .before .before .before .pre in
-    let last : SFits w32 (r .before .before .before .before .before .before .before .args .s .last) = record { sfits = c .struct-told2 .given .1 .1 .1 .0 .1 } in
-    let e = toZ-ofZ last in
-    rw e
-    (mark-done _ _ (p .0) (p .1) (p .2) _ _ (omega arith) (omega arith) (r .make-room .ensures) (rw e at (c .before .before .before .append .ensures)))
+    does-with (same-session refl (toZ-ofZ (record { sfits = c .struct-told .given .1 .1 .1 .0 .1 })) (omega arith) refl)
+    (mark-done _ _ (p .0) (p .1) (p .2) _ _ (omega arith) (omega arith) (r .make-room .ensures) (rw (a .before .at-present .ensures) at (a .append .ensures)))
 
 pub mark-unmarked-spec : {M : Type 1} → statement M
 mark-unmarked-spec =
@@ -54,6 +56,7 @@ mark-unmarked-spec =
     refuse-requires-2
     returns-2
     make-room-requires
+    at-present-requires
     append-requires
     add-t15
     same-length

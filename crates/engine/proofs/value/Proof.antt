@@ -1,6 +1,7 @@
 -- `engine::value` meets its contract: one law for each way out.
+use mathlib.Core.Path.{refl}
 use native.Mathlib.Omega.{arith}
-use Rattle.engine.proofs.Ways.{does-unopened, does-other}
+use Rattle.engine.proofs.Ways.{does-unopened, does-other, same-session, does-with}
 use Rattle.engine.proofs.Valued.{value-last, value-done}
 use borrow.Author.Needs.{needs}
 use mir.Facts.{toZ-ofZ}
@@ -38,7 +39,7 @@ returns-4 : tie.Need-returns-4
 returns-4 c =
     let l = c .before .before in
     let e = toZ-ofZ (l .before .before .before .before .before .before .before .before .before .fits .v) in
-    rw e (value-done _ _ _ (omega arith) (omega arith) _ (omega arith) (rw e at (l .lower .ensures)))
+    does-with (same-session refl e refl refl) (value-done _ _ _ (omega arith) (omega arith) _ (omega arith) (rw e at (l .lower .ensures)))
 
 pub value-spec : {M : Type 1} → statement M
 value-spec =
