@@ -5,7 +5,7 @@ use mathlib.Core.Bool.{Bool, true, false, cond, false≢true}
 use Prim.Native.Nat.{ℕ, _+_, _*_, _-_, _<_, _≤_}
 use native.Mathlib.Omega.{arith}
 use lib.Dec.{eqb}
-use lib.ListN.{length, getD}
+use lib.ListN.{length}
 use Rattle.history.specs.declared.Position.{Position}
 use Rattle.history.specs.declared.Minimum.{Minimum}
 use Rattle.history.specs.declared.Standing.{Standing}
@@ -18,13 +18,13 @@ use Rattle.history.specs.declared.Reply.the-variants.{Accepted, Lowest}
 use Rattle.history.specs.Minima.{standsAt, minimum}
 use Rattle.history.specs.Replies.{showing}
 use Rattle.history.specs.Refusals.{refusal}
-use Rattle.history.specs.Bookkeeper.{History, presentOf, sessionOf, among, without, isActive, closedAt, closed}
+use Rattle.history.specs.Bookkeeper.{History, presentOf, sessionOf, among, without, isActive, closed}
 use Rattle.history.proofs.Order.{clash}
 use Rattle.layout.specs.declared.Held.{Held}
-use Rattle.layout.specs.Layout.{rows, capacity, position}
+use Rattle.layout.specs.Layout.{position}
 use Rattle.table.specs.declared.Found.{Found}
 use Rattle.table.specs.declared.Found.the-variants as found
-use Rattle.table.specs.Marks.{Live, Above}
+use Rattle.table.specs.Marks.{Live}
 use Rattle.table.specs.Calls.{Sought, Released}
 use Rattle.table.proofs.Positions.{refuted}
 use Rattle.table.proofs.Active.{live-among, among-live, not-among}
@@ -32,7 +32,7 @@ use Rattle.table.proofs.Struck.{struck-once}
 use Rattle.stack.specs.declared.Low.{Low}
 use Rattle.stack.specs.declared.Low.the-variants as low
 use Rattle.stack.specs.Calls.{Looked}
-use Rattle.ranges.specs.Holding.{Holds, positionOf}
+use Rattle.ranges.specs.Holding.{positionOf}
 use Rattle.ranges.proofs.Upkeep.{looked-minimum, released-holds}
 use Rattle.engine.specs.Promises.{sessionAfter}
 use Rattle.engine.specs.Keeping.{Keeps, Represents}

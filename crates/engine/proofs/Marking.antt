@@ -2,33 +2,29 @@
 use mathlib.Core.Path.{_≡_, refl, sym, ap, _∙_}
 use mathlib.Core.List.{List, [], _∷_, _++_}
 use mathlib.Core.Bool.{Bool, false, cond}
-use mathlib.Core.Logic.{_⊎_, inl, inr, ⊎-elim}
-use Prim.Native.Nat.{ℕ, _+_, _*_, _<_, _≤_, max}
+use mathlib.Core.Logic.{_⊎_, ⊎-elim}
+use Prim.Native.Nat.{ℕ, _+_, _*_, _<_, _≤_}
 use native.Mathlib.Omega.{arith}
-use lib.Dec.{eqb}
-use lib.ListN.{length, getD, length-append}
+use lib.ListN.{length, length-append}
 use borrow.Author.Tests.{eq-eqb, ne-eqb}
-use Rattle.history.specs.declared.Position.{Position}
 use Rattle.history.specs.declared.Standing.{Standing}
-use Rattle.history.specs.declared.Standing.the-variants.{None, Unmarked, Marked, Closed}
+use Rattle.history.specs.declared.Standing.the-variants.{Unmarked}
 use Rattle.history.specs.declared.Session.{Session}
 use Rattle.history.specs.declared.Command.the-variants.{Mark}
 use Rattle.history.specs.declared.Refusal.{Refusal}
-use Rattle.history.specs.declared.Refusal.the-variants.{NothingToMark, AlreadyMarked, AlreadyClosed, Full}
+use Rattle.history.specs.declared.Refusal.the-variants.{Full}
 use Rattle.history.specs.declared.Reply.the-variants.{Accepted}
-use Rattle.history.specs.declared.Minimum.{Minimum}
-use Rattle.history.specs.Minima.{standsAt, minimum, lastOf}
+use Rattle.history.specs.Minima.{standsAt}
 use Rattle.history.specs.Replies.{numberOf}
 use Rattle.history.specs.Refusals.{markRefusal, refusal}
 use Rattle.history.specs.Bookkeeper.{History, presentOf, sessionOf, isActive, marked}
 use Rattle.history.proofs.Lowest.{minimum-new}
-use Rattle.layout.specs.Layout.{rows, capacity, height, Room}
+use Rattle.layout.specs.Layout.{rows, capacity, height}
 use Rattle.table.specs.Marks.{Above}
-use Rattle.stack.specs.Calls.{Beside}
-use Rattle.ranges.specs.Holding.{Holds, roomFor}
+use Rattle.ranges.specs.Holding.{Holds}
 use Rattle.ranges.specs.Calls.{Added, Appended, Compacted, Spared}
 use Rattle.engine.specs.Promises.{sessionAfter}
-use Rattle.engine.specs.Keeping.{Keeps, Represents, AsLent}
+use Rattle.engine.specs.Keeping.{Keeps, AsLent}
 use Rattle.engine.specs.Calls.{Does, refusedWith}
 use Rattle.engine.proofs.Steps.{refusal-own}
 use Rattle.engine.proofs.Ways.{does-due, does-full, does-accepted, own-of}

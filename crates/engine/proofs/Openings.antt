@@ -1,20 +1,17 @@
 -- The two ways out of an opening.
-use mathlib.Core.Path.{_≡_, refl, sym, ap, _∙_}
-use mathlib.Core.List.{List, []}
-use Prim.Native.Nat.{ℕ, _+_, _*_, _-_, _/_, _<_, _≤_, min}
+use mathlib.Core.Path.{_≡_, refl, ap}
+use mathlib.Core.List.{List}
+use Prim.Native.Nat.{ℕ, _+_, _*_, _<_, _≤_}
 use native.Mathlib.Omega.{arith}
 use lib.ListN.{length, getD}
 use borrow.Author.Tests.{lt-ltb, le-ltb}
-use Rattle.history.specs.declared.Standing.the-variants.{None, Unmarked}
-use Rattle.history.specs.declared.Session.{Session}
 use Rattle.history.specs.declared.Refusal.the-variants.{AreaTooShort}
 use Rattle.history.specs.declared.Reply.the-variants.{Accepted}
-use Rattle.history.specs.declared.Answer.{Answer}
-use Rattle.history.specs.Bookkeeper.{limitOf, blank, opening, sessionOf}
-use Rattle.layout.specs.Layout.{capacity, Room}
+use Rattle.history.specs.Bookkeeper.{limitOf, blank, sessionOf}
+use Rattle.layout.specs.Layout.{Room}
 use Rattle.table.specs.Calls.{Cleared}
 use Rattle.ranges.proofs.Upkeep.{cleared-holds}
-use Rattle.engine.specs.Keeping.{Keeps, Represents}
+use Rattle.engine.specs.Keeping.{Keeps}
 use Rattle.engine.specs.Calls.{Opens, refusedWith}
 
 -- an area too short: nothing is written, and the session is unopened

@@ -1,17 +1,16 @@
 -- The engine plays the starred examples: by demand 3 it tells what the bookkeeper tells, and that computes to them.
-use mathlib.Core.Path.{_≡_, refl, sym, ap, _∙_}
+use mathlib.Core.Path.{_≡_, refl, ap, _∙_}
 use mathlib.Core.List.{List, [], _∷_, map}
 use Prim.Native.Nat.{ℕ}
 use lib.ListN.{length}
 use Rattle.history.specs.declared.Session.{Session}
 use Rattle.history.specs.declared.Command.{Command}
-use Rattle.history.specs.declared.Answer.{Answer}
 use Rattle.history.specs.Replies.{Told}
-use Rattle.history.specs.Bookkeeper.{History, Stepped, step, opening}
+use Rattle.history.specs.Bookkeeper.{History, step, opening}
 use Rattle.history.specs.Examples.{Example, repliesOf, worked, AllWorked, examples}
 use Rattle.history.proofs.Worked.{examples-worked}
 use Rattle.engine.specs.Demand.{Call, AllAgree}
-use Rattle.engine.specs.Playing.{commandsOf, AllLent, toldTo, Played, Plays, PlaysAll}
+use Rattle.engine.specs.Playing.{commandsOf, AllLent, toldTo, Plays, PlaysAll}
 use Rattle.engine.proofs.Tied.{Opened, Called, demand-3}
 
 -- calls that agree with the bookkeeper are told what the bookkeeper tells

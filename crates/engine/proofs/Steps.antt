@@ -1,15 +1,12 @@
 -- The refusals and the bookkeeper's steps, by the tests that decide them.
-use mathlib.Core.Path.{_≡_, refl, sym, ap, _∙_}
-use mathlib.Core.Bool.{Bool, true, false, cond}
+use mathlib.Core.Path.{_≡_}
+use mathlib.Core.Bool.{Bool}
 use Prim.Native.Nat.{ℕ}
-use lib.Dec.{eqb}
 use borrow.Author.Tests.{eq-eqb, ne-eqb}
-use Rattle.history.specs.declared.Standing.{Standing}
 use Rattle.history.specs.declared.Session.{Session}
 use Rattle.history.specs.declared.Command.{Command}
-use Rattle.history.specs.declared.Command.the-variants.{Value, Mark, Query, Close}
-use Rattle.history.specs.Refusals.{markRefusal, ownRefusal, refusal}
-use Rattle.history.specs.Bookkeeper.{History, sessionOf, isActive, accept, refuse, due, step}
+use Rattle.history.specs.Refusals.{ownRefusal, refusal}
+use Rattle.history.specs.Bookkeeper.{History, accept, refuse, due, step}
 
 module _ (s : Session) (n : ℕ) (b : Bool) (c : Command) where
   pub refusal-unopened : s .words ≡ 0 → refusal s n b c ≡ 4

@@ -5,7 +5,7 @@ use mathlib.Core.Bool.{Bool, true, false, cond}
 use mathlib.Core.List.{List, [], _∷_}
 use mathlib.Core.Logic.{⊎-elim}
 use mathlib.Core.Option.{none, some}
-use Prim.Native.Nat.{ℕ, _<_, _≤_}
+use Prim.Native.Nat.{ℕ, _<_}
 use native.Mathlib.Omega.{arith}
 use native.Mathlib.Decide.{ℕ-discrete, decLt}
 use lib.Dec.{eqb, ltb}
@@ -28,7 +28,7 @@ use Rattle.table.proofs.Active.{among-live}
 use Rattle.engine.specs.Promises.{AfterRefusal, AfterAcceptance, shows, Settled}
 use Rattle.engine.specs.Keeping.{AsLent, Keeps, Represents}
 use Rattle.engine.specs.Calls.{Opens, Does}
-use Rattle.engine.specs.Demand.{Call, OpeningSays, CallSays, isOwn, wordsAfter, Made, Agrees, AllAgree, OpeningAgrees, Demand3, Demand1}
+use Rattle.engine.specs.Demand.{Call, OpeningSays, CallSays, isOwn, Made, Agrees, AllAgree, Demand3, Demand1}
 use Rattle.engine.proofs.Steps.{refusal-unopened, refusal-other, refusal-own, step-refused, step-accepted}
 
 -- no command alters the opened length

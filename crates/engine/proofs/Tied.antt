@@ -11,7 +11,7 @@ use Rattle.history.specs.declared.Command.{Command}
 use Rattle.history.specs.declared.Command.the-variants.{Value, Mark, Query, Close}
 use Rattle.history.specs.declared.Answer.{Answer}
 use Rattle.engine.specs.Calls.{Opens, Does}
-use Rattle.engine.specs.Demand.{Call, OpeningSays, CallSays, Demand3, Demand1}
+use Rattle.engine.specs.Demand.{OpeningSays, CallSays, Demand3, Demand1}
 use Rattle.engine.proofs.Theorem as theorem
 use Rattle.engine.proofs.open.Reads as open-reads
 use Rattle.engine.proofs.value.Reads as value-reads

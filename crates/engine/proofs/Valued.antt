@@ -1,10 +1,10 @@
 -- The ways out of a Value.
 use mathlib.Core.Path.{_≡_, refl, sym, ap, _∙_}
-use mathlib.Core.List.{List, [], _∷_, _++_}
+use mathlib.Core.List.{List, [], _∷_}
 use mathlib.Core.Bool.{Bool, false}
-use Prim.Native.Nat.{ℕ, _+_, _*_, _<_, _≤_}
+use Prim.Native.Nat.{ℕ, _+_, _*_, _<_}
 use native.Mathlib.Omega.{arith}
-use lib.IntN.{ℤ, pos}
+use lib.IntN.{ℤ}
 use lib.ListN.{length, getD, length-append}
 use borrow.Author.Tests.{eq-eqb, ne-eqb}
 use Rattle.history.specs.declared.Standing.the-variants.{Unmarked}
@@ -18,11 +18,10 @@ use Rattle.history.specs.Bookkeeper.{History, sessionOf, isActive, valued}
 use Rattle.history.proofs.Lowest.{lastOf-more}
 use Rattle.layout.specs.declared.Held.{Held}
 use Rattle.layout.specs.Layout.{rows, capacity, position}
-use Rattle.stack.specs.Calls.{Lowered, Beside}
-use Rattle.ranges.specs.Holding.{Holds}
+use Rattle.stack.specs.Calls.{Lowered}
 use Rattle.ranges.proofs.Upkeep.{lowered-holds}
 use Rattle.engine.specs.Promises.{sessionAfter}
-use Rattle.engine.specs.Keeping.{Keeps, Represents}
+use Rattle.engine.specs.Keeping.{Keeps}
 use Rattle.engine.specs.Calls.{Does, refusedWith}
 use Rattle.engine.proofs.Steps.{refusal-own}
 use Rattle.engine.proofs.Ways.{does-due, does-accepted, own-of}

@@ -3,7 +3,7 @@
 use mathlib.Core.Path.{_≡_, refl, sym, ap, _∙_}
 use mathlib.Core.Bool.{Bool, true, false, false≢true}
 use mathlib.Core.List.{List}
-use mathlib.Core.Logic.{_⊎_, inl, inr}
+use mathlib.Core.Logic.{inl, inr}
 use Prim.Native.Nat.{ℕ}
 use native.Mathlib.Omega.{arith}
 use lib.IntN.{ℤ}
@@ -12,19 +12,18 @@ use Rattle.history.specs.declared.Position.{Position}
 use Rattle.history.specs.declared.Standing.{Standing}
 use Rattle.history.specs.declared.Session.{Session}
 use Rattle.history.specs.declared.Command.{Command}
-use Rattle.history.specs.declared.Command.the-variants.{Value, Mark, Query, Close}
+use Rattle.history.specs.declared.Command.the-variants.{Mark}
 use Rattle.history.specs.declared.Refusal.{Refusal}
 use Rattle.history.specs.declared.Refusal.the-variants.{AreaTooShort, UnknownKind, ArgumentCutOff, Unopened, OtherLength, LastPosition, NothingToMark, AlreadyMarked, AlreadyClosed, Full, NotActive}
 use Rattle.history.specs.declared.Reply.{Reply}
-use Rattle.history.specs.declared.Reply.the-variants.{Accepted, Lowest, Refused}
 use Rattle.history.specs.declared.Answer.{Answer}
-use Rattle.history.specs.Replies.{Told, numbered, accepted, numberOf, told}
-use Rattle.history.specs.Refusals.{ownRefusal, refusal}
-use Rattle.history.specs.Bookkeeper.{History, sessionOf, isActive, accept, refuse, due, step, Stepped}
+use Rattle.history.specs.Replies.{numbered, accepted, numberOf, told}
+use Rattle.history.specs.Refusals.{refusal}
+use Rattle.history.specs.Bookkeeper.{History, isActive, accept, refuse, due, step}
 use Rattle.engine.specs.Promises.{AfterAcceptance, Possible}
 use Rattle.engine.specs.Keeping.{Keeps, Represents}
 use Rattle.engine.specs.Calls.{Does, refusedWith}
-use Rattle.engine.proofs.Steps.{refusal-unopened, refusal-other, refusal-own, step-refused, step-accepted}
+use Rattle.engine.proofs.Steps.{refusal-unopened, refusal-other, step-refused, step-accepted}
 
 -- no refusal has the number of an acceptance
 some-number : (r : Refusal) → numberOf r ≡ 0 → ⊥

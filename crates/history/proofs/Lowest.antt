@@ -4,13 +4,13 @@ use mathlib.Core.Path.{_≡_, refl, sym, ap, _∙_}
 use mathlib.Core.Bool.{Bool, true, false, cond}
 use mathlib.Core.List.{List, [], _∷_, _++_, append-assoc, append-nil}
 use mathlib.Core.Logic.{_⊎_, inl, inr, ⊎-elim}
-use Prim.Native.Nat.{ℕ, zero, suc, _+_, _-_, _<_, _≤_}
+use Prim.Native.Nat.{ℕ, _+_, _-_, _<_, _≤_}
 use native.Mathlib.Decide.{ℕ-discrete, decLt}
 use native.Mathlib.Omega.{arith}
 use lib.IntN.{ℤ, pos}
 use lib.Signed.{leZ}
-use lib.ListN.{length, getD, take, drop, length-append, length-drop, take-append-drop, List·getD-append}
-use lib.Seq.{drop-append-le, drop-length, getD-append-seam, getD-at, length-take-le, getD-take}
+use lib.ListN.{length, take, drop, length-append, length-drop, take-append-drop, List·getD-append}
+use lib.Seq.{drop-append-le, drop-length, getD-at, length-take-le, getD-take}
 use Rattle.history.specs.declared.Position.{Position}
 use Rattle.history.specs.declared.Minimum.{Minimum}
 use Rattle.history.specs.Minima.{takesOver, lower, standsAt, next, lowest, presentAt, valueAt, lastOf, minimum, Least}

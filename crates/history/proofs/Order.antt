@@ -1,12 +1,11 @@
 -- The order of ℤ as tests: `leZ` is reflexive, transitive and total.
 use mathlib.Core.Path.{_≡_, refl, sym, subst}
 use mathlib.Core.Bool.{Bool, true, false}
-use Prim.Native.Nat.{ℕ, _<_, _≤_}
 use native.Mathlib.Omega.{arith}
 use lib.Dec.{T}
 use lib.IntN.{ℤ, pos, negsuc}
 use lib.Signed.{leZ}
-use borrow.Author.Tests.{leb-true, leb-false, le-leb, lt-leb}
+use borrow.Author.Tests.{leb-true, leb-false, le-leb}
 
 -- a test that is both true and false
 pub clash : {C : Type 0} {b : Bool} → b ≡ true → b ≡ false → C

@@ -1,7 +1,7 @@
 -- Document 01, "The bookkeeper of demand 3". Told lengths and commands, and nothing of the engine's.
-use mathlib.Core.Bool.{Bool, true, false, cond, _||_}
+use mathlib.Core.Bool.{Bool, false, cond, _||_}
 use mathlib.Core.List.{List, [], _∷_, _++_}
-use Prim.Native.Nat.{ℕ, suc, _+_, _-_, _/_, min, max}
+use Prim.Native.Nat.{ℕ, _+_, _-_, _/_, min, max}
 use lib.IntN.{ℤ}
 use lib.Dec.{ltb, eqb}
 use lib.ListN.{length}

@@ -2,7 +2,7 @@
 use mathlib.Core.Path.{_≡_}
 use mathlib.Core.List.{List, [], _∷_, map}
 use Prim.Native.Nat.{ℕ}
-use lib.IntN.{ℤ, pos, negsuc}
+use lib.IntN.{pos, negsuc}
 use Rattle.history.specs.declared.Position.{Position}
 use Rattle.history.specs.declared.Command.{Command}
 use Rattle.history.specs.declared.Command.the-variants.{Value, Mark, Query, Close}

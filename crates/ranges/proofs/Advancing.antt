@@ -1,16 +1,15 @@
 -- The two ways to come to the next run: it is the last, and ends with the rows, or the run above starts where it ends.
-use mathlib.Core.Path.{_≡_, refl}
+use mathlib.Core.Path.{_≡_}
 use mathlib.Core.List.{List}
-use Prim.Native.Nat.{ℕ, _+_, _*_, _%_, _<_, _≤_}
+use Prim.Native.Nat.{ℕ, _+_, _%_, _<_, _≤_}
 use native.Mathlib.Omega.{arith}
 use lib.IntN.{ℤ}
-use lib.ListN.{getD}
 use borrow.Author.Tests.{lt-ltb, le-ltb}
 use Rattle.layout.specs.Layout.{leastAt, first}
 use Rattle.history.specs.Minima.{standsAt}
 use Rattle.stack.specs.Runs.{least, above}
 use Rattle.ranges.specs.declared.Run.{Run}
-use Rattle.ranges.specs.Calls.{startOf, runAt, Advanced}
+use Rattle.ranges.specs.Calls.{startOf, Advanced}
 
 module _ (w : List ℕ) (h count top : ℕ) (run : Run) (e : run .end ≤ h) {v : ℤ} (q : v ≡ least w (run .next)) where
   -- the run that is read, with its end

@@ -2,7 +2,7 @@
 -- A run's entry is read before an append can reach its place: the entries appended are at most as many as the runs come by, and
 -- where they are as many the top has the run's minimum, so that the next mark of that run joins it and writes no entry.
 use mathlib.Core.Path.{_≡_, refl, sym, ap, _∙_}
-use mathlib.Core.Bool.{Bool, true, false, cond}
+use mathlib.Core.Bool.{Bool, cond}
 use mathlib.Core.List.{List, [], _∷_, _++_, append-nil}
 use native.Mathlib.Decide.{ℕ-discrete, decLt}
 use native.Mathlib.Nat.{zero-add, suc-add}
@@ -10,7 +10,7 @@ use native.Mathlib.Numerals.{add-one}
 use Prim.Native.Nat.{ℕ, zero, suc, _+_, _*_, _-_, _%_, _<_, _≤_}
 use native.Mathlib.Omega.{arith}
 use lib.Dec.{eqb, ltb}
-use lib.IntN.{ℤ, pos}
+use lib.IntN.{ℤ}
 use lib.ListN.{length, getD, length-append}
 use borrow.Author.Tests.{eq-eqb, ne-eqb, lt-ltb, le-ltb}
 use Rattle.history.specs.declared.Position.{Position}
@@ -21,11 +21,10 @@ use Rattle.layout.specs.declared.Held.{Held}
 use Rattle.layout.specs.declared.Place.{Place}
 use Rattle.layout.specs.declared.Header.{Header}
 use Rattle.layout.specs.Layout.{rows, capacity, height, position, flag, leastWord, leastAt, first, Room, Headed}
-use Rattle.table.specs.Marks.{Linked, activeBelow, activeIn, Above}
+use Rattle.table.specs.Marks.{activeBelow, Above}
 use Rattle.table.specs.Calls.{Cleared}
 use Rattle.table.proofs.Active.{activeBelow-length}
-use Rattle.stack.specs.Runs.{Stacked, Covers, Rests, entry, least, above}
-use Rattle.stack.specs.Calls.{Beside}
+use Rattle.stack.specs.Runs.{Covers, entry, least, above}
 use Rattle.stack.proofs.Rows.{rests-unique}
 use Rattle.ranges.specs.declared.Run.{Run}
 use Rattle.ranges.specs.Holding.{Holds, positionOf, roomFor}

@@ -1,5 +1,5 @@
 -- A mark is appended: its row comes after the others, and either the stack's top has its minimum or a new entry does.
-use mathlib.Core.Path.{_≡_, refl, sym, ap, _∙_}
+use mathlib.Core.Path.{_≡_, sym, ap, _∙_}
 use mathlib.Core.Bool.{Bool, true, false}
 use mathlib.Core.List.{List, [], _∷_, _++_}
 use native.Mathlib.Decide.{ℕ-discrete}
@@ -10,16 +10,16 @@ use lib.ListN.{length, getD}
 use lib.Signed.{leZ}
 use Rattle.history.specs.declared.Position.{Position}
 use Rattle.history.specs.declared.Minimum.{Minimum}
-use Rattle.history.specs.Minima.{minimum, valueAt}
+use Rattle.history.specs.Minima.{minimum}
 use Rattle.history.proofs.Lowest.{minimum-rises, minimum-shared}
 use Rattle.layout.specs.declared.Held.{Held}
 use Rattle.layout.specs.declared.Place.{Place}
-use Rattle.layout.specs.Layout.{rows, capacity, height, position, flag, leastWord, leastAt, first, Fits}
+use Rattle.layout.specs.Layout.{rows, capacity, height, position, leastAt}
 use Rattle.table.specs.Marks.{Linked, activeIn, Above}
 use Rattle.table.specs.Calls.{Inserted}
 use Rattle.table.proofs.Stays.{Apart, linked-apart, active-apart}
 use Rattle.stack.specs.Runs.{Stacked, Rests, entry}
-use Rattle.stack.specs.Calls.{Pushed, Topping, Beside}
+use Rattle.stack.specs.Calls.{Pushed, Topping}
 use Rattle.stack.proofs.Alike.{Alike, stacked-same, rests-same}
 use Rattle.stack.proofs.Rows.{rests-unique, top-rests, joined}
 use Rattle.ranges.specs.Holding.{Holds, positionOf}

@@ -1,24 +1,21 @@
 -- What the words hold after an opening, a value and a close, and what a query reads off them.
-use mathlib.Core.Path.{_≡_, refl, sym, ap, _∙_}
+use mathlib.Core.Path.{_≡_, ap, _∙_}
 use mathlib.Core.List.{List, [], _∷_, _++_}
-use Prim.Native.Nat.{ℕ, _+_, _*_, _-_, _<_, _≤_}
+use Prim.Native.Nat.{ℕ, _+_, _*_, _<_}
 use native.Mathlib.Omega.{arith}
 use lib.IntN.{ℤ}
-use lib.ListN.{length, getD, length-append}
+use lib.ListN.{length, length-append}
 use Rattle.history.specs.declared.Position.{Position}
-use Rattle.history.specs.declared.Minimum.{Minimum}
 use Rattle.history.specs.Minima.{minimum, standsAt, next, presentAt}
 use Rattle.history.specs.Bookkeeper.{without}
 use Rattle.history.proofs.Lowest.{minimum-more, minimum-least}
 use Rattle.layout.specs.declared.Held.{Held}
-use Rattle.layout.specs.declared.Place.{Place}
-use Rattle.layout.specs.Layout.{rows, capacity, height, position, leastWord, leastAt, first, Room}
-use Rattle.table.specs.Marks.{Linked, activeIn, Live}
+use Rattle.layout.specs.Layout.{rows, height, position, Room}
+use Rattle.table.specs.Marks.{Live}
 use Rattle.table.specs.Calls.{Released, Cleared}
 use Rattle.table.proofs.Stays.{Apart, linked-apart, active-apart}
 use Rattle.stack.specs.declared.Low.{Low}
-use Rattle.stack.specs.declared.Low.the-variants.{At, Nothing}
-use Rattle.stack.specs.Runs.{Stacked, Rests}
+use Rattle.stack.specs.declared.Low.the-variants.{At}
 use Rattle.stack.specs.Calls.{Lowered, Looked}
 use Rattle.stack.proofs.Alike.{Alike, stacked-same, rests-same}
 use Rattle.ranges.specs.Holding.{Holds, positionOf}

@@ -1,14 +1,14 @@
 -- What the top entry's position says: with no entry there is no top, and else it is the last below the height.
-use mathlib.Core.Path.{_≡_, refl, sym, ap, _∙_}
+use mathlib.Core.Path.{_≡_, sym, ap, _∙_}
 use mathlib.Core.Bool.{true, false, true≢false, false≢true}
 use mathlib.Core.List.{List}
-use Prim.Native.Nat.{ℕ, _+_, _*_, _-_, _<_, _≤_}
+use Prim.Native.Nat.{ℕ, _+_, _*_, _-_}
 use native.Mathlib.Omega.{arith}
 use lib.ListN.{getD}
 use Rattle.history.specs.declared.Position.{Position}
 use Rattle.layout.specs.declared.Place.{Place}
 use Rattle.layout.specs.declared.Header.{Header}
-use Rattle.layout.specs.Layout.{height, leastAt, Headed, Fits}
+use Rattle.layout.specs.Layout.{height, leastAt, Headed}
 use Rattle.stack.specs.Calls.{Topping}
 
 module _ (w : List ℕ) (p : Position) {r : Header} (read : Headed w r) where

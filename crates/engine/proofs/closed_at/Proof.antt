@@ -1,6 +1,5 @@
 -- `engine::closed_at` meets its contract: the test is the definition's.
 use borrow.Author.Tests.{eq-eqb, ne-eqb}
-use borrow.Author.Needs.{needs}
 use Rattle.engine.proofs.closed_at.Statement.{statement}
 use Rattle.engine.proofs.closed_at.Tie as tie
 
