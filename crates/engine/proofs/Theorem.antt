@@ -130,8 +130,8 @@ record Stands (n : ℕ) (first words : List ℕ) (h : History) (s : Session) : T
 
 module _ (n : ℕ) (first words : List ℕ) (h : History) (s : Session) (c : Call) (i : Stands n first words h s)
     (lent : isOwn n (c .lent) ≡ true → c .lent ≡ words) (d : Does (c .command) s (c .lent) (c .left) (c .answer)) where
-  abbrev paper : History
-  paper = step h (length (c .lent)) (c .command) .history
+  abbrev later : History
+  later = step h (length (c .lent)) (c .command) .history
 
   -- on the opening's words, and on others, where nothing is shown
   least : Represents h first s (c .lent) → (j : Position) (m : Minimum) → c .command ≡ Query j → told (c .answer .reply) .shown ≡ some m
@@ -142,8 +142,8 @@ module _ (n : ℕ) (first words : List ℕ) (h : History) (s : Session) (c : Cal
       let u = shown-minimum h (length (c .lent)) j m q in
       (u .2, rw (u .3) (active-least h first (c .lent) j (r .own (u .0) (u .1)) (u .2)))
 
-  agrees : (now : List ℕ) → Represents h first s (c .lent) → AsLent (paper .peak) first now → (isOwn n (c .lent) ≡ false → c .left ≡ c .lent)
-      → Agrees n first now h paper c
+  agrees : (now : List ℕ) → Represents h first s (c .lent) → AsLent (later .peak) first now → (isOwn n (c .lent) ≡ false → c .left ≡ c .lent)
+      → Agrees n first now h later c
   agrees now r rest elsewhere = record {
     tells = d .tells h first r;
     session = d .represents h first r .session;
@@ -159,18 +159,18 @@ module _ (n : ℕ) (first words : List ℕ) (h : History) (s : Session) (c : Cal
     own-represents : Represents h first s (c .lent)
     own-represents = record { session = i .session; own = λ _ _. rw (lent o) (i .keeps (own-length n (c .lent) o .0) .1) }
 
-    own-words : paper .words ≡ n
+    own-words : later .words ≡ n
     own-words = step-words h (length (c .lent)) (c .command) ∙ i .opened
 
-    own-keeps : (length (c .left) ≡ n) × Keeps paper first (c .left)
+    own-keeps : (length (c .left) ≡ n) × Keeps later first (c .left)
     own-keeps =
         let l : length (c .left) ≡ n = d .long ∙ own-length n (c .lent) o .1 in
         (l, d .represents h first own-represents .own (λ e. own-length n (c .lent) o .0 (sym own-words ∙ e)) (l ∙ sym own-words))
 
-    own-agrees : Agrees n first (c .left) h paper c
+    own-agrees : Agrees n first (c .left) h later c
     own-agrees = agrees (c .left) own-represents (own-keeps .1 .rest) (λ e. clash o e)
 
-    own-stands : Stands n first (c .left) paper (c .answer .session)
+    own-stands : Stands n first (c .left) later (c .answer .session)
     own-stands = record { session = own-agrees .session; opened = own-words; rest = own-keeps .1 .rest; keeps = λ _. own-keeps }
 
   -- others
@@ -183,7 +183,7 @@ module _ (n : ℕ) (first words : List ℕ) (h : History) (s : Session) (c : Cal
 
     -- refused with k, whatever the program says of the position
     refused-with : (k : ℕ) → (k ≡ 0 → ⊥) → ((b : Bool) → refusal s (length (c .lent)) b (c .command) ≡ k)
-        → (paper ≡ h) × (c .answer .session ≡ s) × (c .left ≡ c .lent)
+        → (later ≡ h) × (c .answer .session ≡ s) × (c .left ≡ c .lent)
     refused-with k z f =
         let b = d .settled .isActive in
         let r = d .settled .refused (λ e. z (sym (f b) ∙ e)) in
@@ -191,7 +191,7 @@ module _ (n : ℕ) (first words : List ℕ) (h : History) (s : Session) (c : Cal
         ap (λ (x : Session). refusal x (length (c .lent)) (isActive h (c .command)) (c .command)) (sym (i .session)) ∙ f (isActive h (c .command)) in
         (ap (λ (x : Stepped). x .history) (step-refused h (length (c .lent)) (c .command) k q z), r .session, r .words)
 
-    unaltered : (paper ≡ h) × (c .answer .session ≡ s) × (c .left ≡ c .lent)
+    unaltered : (later ≡ h) × (c .answer .session ≡ s) × (c .left ≡ c .lent)
     unaltered =
         let w : s .words ≡ n = ap (λ (x : Session). x .words) (i .session) ∙ i .opened in
         elim (ℕ-discrete n 0) [
@@ -200,14 +200,14 @@ module _ (n : ℕ) (first words : List ℕ) (h : History) (s : Session) (c : Cal
               (λ b. refusal-other s (length (c .lent)) b (c .command) (λ e. z (sym w ∙ e)) (λ e. other-length n (c .lent) o z (e ∙ w)))
         ]
 
-    other-stands : Stands n first words paper (c .answer .session)
+    other-stands : Stands n first words later (c .answer .session)
     other-stands = rw (unaltered .0, unaltered .1) i
 
-    other-agrees : Agrees n first words h paper c
+    other-agrees : Agrees n first words h later c
     other-agrees = agrees words other-represents (other-stands .rest) (λ _. unaltered .2)
 
   one : (b : Bool) → isOwn n (c .lent) ≡ b
-      → Agrees n first (cond b (c .left) words) h paper c × Stands n first (cond b (c .left) words) paper (c .answer .session)
+      → Agrees n first (cond b (c .left) words) h later c × Stands n first (cond b (c .left) words) later (c .answer .session)
   one true o = (own-agrees o, own-stands o)
   one false o = (other-agrees o, other-stands o)
 

@@ -16,10 +16,9 @@ use Rattle.history.specs.Minima.{standsAt, next}
 use Rattle.history.specs.Refusals.{refusal}
 use Rattle.history.specs.Bookkeeper.{History, sessionOf, isActive, valued}
 use Rattle.history.proofs.Lowest.{lastOf-more}
-use Rattle.layout.specs.declared.Held.{Held}
-use Rattle.layout.specs.Layout.{rows, capacity, position}
+use Rattle.layout.specs.Layout.{capacity}
 use Rattle.stack.specs.Calls.{Lowered}
-use Rattle.ranges.proofs.Upkeep.{lowered-holds}
+use Rattle.ranges.proofs.Upkeep.{lowered-rows, lowered-position, lowered-holds}
 use Rattle.engine.specs.Promises.{sessionAfter}
 use Rattle.engine.specs.Keeping.{Keeps}
 use Rattle.engine.specs.Calls.{Does, refusedWith}
@@ -40,12 +39,6 @@ module _ (s : Session) (w : List ℕ) (v : ℤ) (z : s .words ≡ 0 → ⊥) (o 
         → getD after i 0 ≡ getD w i 0
     beside i m e = q .kept i (record { height = m; entries = λ t a b. e t b })
 
-    same-rows : rows after ≡ rows w
-    same-rows = beside 0 (λ e. omega arith) (λ t b. ((λ e. omega arith), (λ e. omega arith), (λ e. omega arith)))
-
-    same-position : (g : Held) → position after g ≡ position w g
-    same-position g = beside (16 + 8 * g .0) (λ e. omega arith) (λ t b. ((λ e. omega arith), (λ e. omega arith), (λ e. omega arith)))
-
     module _ (h : History) (lent : List ℕ) (e : s ≡ sessionOf h) (k : Keeps h lent w) where
       present-is : s .present .0 ≡ length (h .values)
       present-is = ap (λ (x : Session). x .present .0) e
@@ -61,7 +54,7 @@ module _ (s : Session) (w : List ℕ) (v : ℤ) (z : s .words ≡ 0 → ⊥) (o 
         few = k .few;
         wide = k .wide;
         some = λ x. omega (arith, length-append (h .values) (v ∷ []));
-        fresh = λ x g l. rw (same-position g) (omega (arith, length-append (h .values) (v ∷ []), k .holds .before g (rw same-rows at l)));
+        fresh = λ x g l. rw (lowered-position q g) (omega (arith, length-append (h .values) (v ∷ []), k .holds .before g (rw (lowered-rows q) at l)));
       }
 
       session-is : sessionAfter s (Value v) (s .active) ≡ sessionOf (valued h v)

@@ -51,13 +51,13 @@ Made did n s words (c ∷ cs) =
     × did s c
     × Made did n (c .answer .session) (wordsAfter n words c) cs
 
--- one call agrees with the bookkeeper, whose paper is h before it and `paper` after it. The engine was opened on the words `first`, which are `now` the words
-pub record Agrees (n : ℕ) (first now : List ℕ) (h paper : History) (c : Call) : Type 0 where
+-- one call agrees with the bookkeeper, whose paper is h before it and `later` after it. The engine was opened on the words `first`, which are `now` the words
+pub record Agrees (n : ℕ) (first now : List ℕ) (h later : History) (c : Call) : Type 0 where
   -- "the pedal's reply is the bookkeeper's, value and place included, and the session's numbers and standing are those on the paper"
   pub tells : told (c .answer .reply) ≡ step h (length (c .lent)) (c .command) .tells
-  pub session : c .answer .session ≡ sessionOf paper
+  pub session : c .answer .session ≡ sessionOf later
   -- "every word from index 512 + 64 × l on is still as it was lent", just before the opening
-  pub rest : AsLent (paper .peak) first now
+  pub rest : AsLent (later .peak) first now
   -- "Any other command may be lent any words, and alters none of them."
   pub long : length (c .left) ≡ length (c .lent)
   pub elsewhere : isOwn n (c .lent) ≡ false → c .left ≡ c .lent
@@ -72,8 +72,8 @@ pub record Agrees (n : ℕ) (first now : List ℕ) (h paper : History) (c : Call
 abbrev pub AllAgree : ℕ → List ℕ → List ℕ → History → List Call → Type 0
 AllAgree n first words h [] = Unit {0}
 AllAgree n first words h (c ∷ cs) =
-    let paper : History = step h (length (c .lent)) (c .command) .history in
-    Agrees n first (wordsAfter n words c) h paper c × AllAgree n first (wordsAfter n words c) paper cs
+    let later : History = step h (length (c .lent)) (c .command) .history in
+    Agrees n first (wordsAfter n words c) h later c × AllAgree n first (wordsAfter n words c) later cs
 
 -- and so does the opening
 pub record OpeningAgrees (first left : List ℕ) (o : Answer) : Type 0 where

@@ -6,6 +6,7 @@ use native.Mathlib.Omega.{arith}
 use lib.IntN.{ℤ}
 use lib.ListN.{length, length-append}
 use Rattle.history.specs.declared.Position.{Position}
+use Rattle.history.specs.declared.Minimum.{Minimum}
 use Rattle.history.specs.Minima.{minimum, standsAt, next, presentAt}
 use Rattle.history.specs.Bookkeeper.{without}
 use Rattle.history.proofs.Lowest.{minimum-more, minimum-least}
@@ -44,32 +45,34 @@ cleared-holds w v c q r =
       minima = λ h z. absurd (omega arith);
     }
 
--- a value lowers each mark's minimum, as it does the history's
+-- a value writes only words of the stack, and leaves the rows
+module _ {w v : List ℕ} {m : Minimum} (q : Lowered w v m) where
+  lowered-apart : Apart w v
+  lowered-apart i n e = q .kept i (record { height = n; entries = λ t _ _. e t })
+
+  pub lowered-rows : rows v ≡ rows w
+  lowered-rows = lowered-apart 0 (λ e. omega arith) (λ t. ((λ e. omega arith), (λ e. omega arith), (λ e. omega arith)))
+
+  pub lowered-position : (h : Held) → position v h ≡ position w h
+  lowered-position h = lowered-apart (16 + 8 * h .0) (λ e. omega arith) (λ t. ((λ e. omega arith), (λ e. omega arith), (λ e. omega arith)))
+
+-- it lowers each mark's minimum, as it does the history's
 pub lowered-holds : (w v : List ℕ) (values : List ℤ) (active : List Position) (x : ℤ) → Lowered w v (standsAt x (next (presentAt values))) → Holds w values active
     → length values < 4294967295 → Holds v (values ++ (x ∷ [])) active
 lowered-holds w v values active x q k f =
     let s = q .stacked (rows w) (k .stacked) in
     record {
       short = omega (arith, length-append values (x ∷ []));
-      linked = linked-apart w v beside (q .long) (rw same-rows (s .low)) (k .linked);
-      stacked = rw same-rows s;
-      marks = active-apart w v beside ∙ k .marks;
-      after = λ h b. rw (same-position h) (k .after h (rw same-rows at b));
-      before = λ h b. rw (same-position h) (omega (arith, k .before h (rw same-rows at b), length-append values (x ∷ [])));
+      linked = linked-apart w v (lowered-apart q) (q .long) (rw (lowered-rows q) (s .low)) (k .linked);
+      stacked = rw (lowered-rows q) s;
+      marks = active-apart w v (lowered-apart q) ∙ k .marks;
+      after = λ h b. rw (lowered-position q h) (k .after h (rw (lowered-rows q) at b));
+      before = λ h b. rw (lowered-position q h) (omega (arith, k .before h (rw (lowered-rows q) at b), length-append values (x ∷ [])));
       minima = λ h b.
-          let c : h .0 < rows w = rw same-rows at b in
-          rw (same-position h, minimum-more values x (positionOf w h) (k .after h c) (k .before h c))
+          let c : h .0 < rows w = rw (lowered-rows q) at b in
+          rw (lowered-position q h, minimum-more values x (positionOf w h) (k .after h c) (k .before h c))
           (q .lowers (rows w) (k .stacked) h _ (k .minima h c));
     }
-  where
-    beside : Apart w v
-    beside i n e = q .kept i (record { height = n; entries = λ t _ _. e t })
-
-    same-rows : rows v ≡ rows w
-    same-rows = beside 0 (λ e. omega arith) (λ t. ((λ e. omega arith), (λ e. omega arith), (λ e. omega arith)))
-
-    same-position : (h : Held) → position v h ≡ position w h
-    same-position h = beside (16 + 8 * h .0) (λ e. omega arith) (λ t. ((λ e. omega arith), (λ e. omega arith), (λ e. omega arith)))
 
 -- a close strikes a mark, and leaves every row's minimum
 pub released-holds : (w v : List ℕ) (values : List ℤ) (active : List Position) (g : Held) → Released w v g → Holds w values active → g .0 < rows w
