@@ -44,10 +44,10 @@ head w b = getD w (16 + 8 * b + 6) 0
 -- there is room for c rows
 pub record Room (w : List ℕ) (c : ℕ) : Type 0 where
   pub some : 0 < c
-  pub few : c ≤ 8254
+  pub few : c ≤ 16446
   pub wide : 16 + 8 * c ≤ length w
 
--- the header's numbers fit each other and the words. 8,254 rows are 2 for each of 4,096 marks, and 62
+-- the header's numbers fit each other and the words. 16,446 rows are 4 for each of 4,096 marks, and 62
 pub record Fits (w : List ℕ) : Type 0 where
   pub room : Room w (capacity w)
   pub full : rows w ≤ capacity w
@@ -55,7 +55,7 @@ pub record Fits (w : List ℕ) : Type 0 where
 
 -- what is read of a header, of any words
 pub record Headed (w : List ℕ) (r : Header) : Type 0 where
-  pub few : r .capacity ≤ 8254
+  pub few : r .capacity ≤ 16446
   pub full : r .rows ≤ r .capacity
   pub high : r .height ≤ r .rows
   pub wide : 0 < r .capacity → 16 + 8 * r .capacity ≤ length w

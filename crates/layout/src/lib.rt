@@ -35,7 +35,7 @@ pub fn read_header(area: &[u64]) -> Header
     if capacity == 0 {
         return none;
     }
-    if 8254 < capacity {
+    if 16446 < capacity {
         return none;
     }
     if capacity < rows {

@@ -62,7 +62,7 @@ pub record Carried (w v : List ℕ) (h : Held) (low : Minimum) : Type 0 where
   pub closed : flag w h ≡ 0 → v ≡ w
   pub active : (flag w h ≡ 0 → ⊥) → Appended w v (record { 0 = position w h % 4294967296 }) low
 
--- what a rebuild of the words w for so many active marks leaves: the same history with no row of a closed mark, and room for as many marks again
+-- what a rebuild of the words w for so many active marks leaves: the same history with no row of a closed mark, and room for more
 pub record Compacted (w v : List ℕ) (values : List ℤ) (marks : List Position) : Type 0 where
   pub holds : Holds v values marks
   pub count : rows v ≡ length marks

@@ -29,7 +29,7 @@ pub fn append(area: &mut [u64], p: Position, m: Minimum)
 
 // The run that has row h, from the one that has the row before it.
 fn advance(area: &[u64], run: Run, h: usize, count: usize, top: usize) -> Run
-    requires { ⌜ (top ≤ count) × (count ≤ 8254) × (16 + 8 * count ≤ length (now area)) ⌝ }
+    requires { ⌜ (top ≤ count) × (count ≤ 16446) × (16 + 8 * count ≤ length (now area)) ⌝ }
     ensures { λ r. ⌜ Advanced (now (area .entry)) h count top run r ⌝ }
 {
     let end = run.end;
@@ -63,7 +63,7 @@ fn advance(area: &[u64], run: Run, h: usize, count: usize, top: usize) -> Run
 
 // A row of a rebuild: it is appended to the rows that stay, if its mark is active.
 fn carry(area: &mut [u64], held: Held, low: Minimum)
-    requires { ⌜ (held .0 < 8254) × (16 + 8 * held .0 + 1 < length (now area)) ⌝ }
+    requires { ⌜ (held .0 < 16446) × (16 + 8 * held .0 + 1 < length (now area)) ⌝ }
     ensures { λ r. ⌜ Carried (now (area .entry)) (now (area .exit)) held low ⌝ }
 {
     let h = held.0;
@@ -73,7 +73,7 @@ fn carry(area: &mut [u64], held: Held, low: Minimum)
     }
 }
 
-// Source document 000, section 3.2: the active marks are transferred, in order, to an emptied table with room for as many again.
+// Source document 000, section 3.2: the active marks are transferred, in order, to an emptied table with room for more.
 // It lies in the same words: a row is written at or below the row that is read.
 pub fn rebuild(area: &mut [u64], active: usize)
     ensures { λ r. ⌜ Rebuilt (now (area .entry)) (now (area .exit)) active ⌝ }
@@ -84,7 +84,7 @@ pub fn rebuild(area: &mut [u64], active: usize)
     let head = layout::read_header(area);
     let count = head.rows;
     let top = head.height;
-    table::clear(area, 2 * active + 62);
+    table::clear(area, 4 * active + 62);
     let mut run = Run {
         next: Place(0),
         end: 0,

@@ -92,22 +92,28 @@ pub fn tops(area: &[u64], p: Position) -> bool
     false
 }
 
+// How far the search goes on: by half where the run there starts at the row or below it, else not. It is arithmetic because a branch
+// would be guessed wrong every other time.
+fn onward(half: usize, first: usize, h: usize) -> usize
+    requires { ⌜ (half < 65536) × (first < 65536) × (h < 65536) ⌝ }
+    ensures { λ r. ⌜ (r ≤ half) × (first ≤ h → r ≡ half) × (h < first → r ≡ 0) ⌝ }
+{
+    half * ((65536 + h - first) / 65536)
+}
+
 // The place whose run has a row: a predecessor search over the runs' first rows (source document 000, Theorem 3).
 pub fn covering(area: &[u64], held: Held) -> Place
     ensures { λ r. ⌜ Sought (now (area .entry)) held r ⌝ }
 {
-    let h = held.0;
+    let h = held.0 % 65536;
     let head = layout::read_header(area);
     let mut low = 0;
-    let mut high = head.height;
-    while low + 1 < high {
-        let middle = (low + high) / 2;
-        let first = area[16 + 8 * middle + 5] as usize;
-        if first <= h {
-            low = middle;
-        } else {
-            high = middle;
-        }
+    let mut size = head.height;
+    while 1 < size {
+        let half = size / 2;
+        let first = (area[16 + 8 * (low + half) + 5] % 65536) as usize;
+        low += onward(half, first, h);
+        size -= half;
     }
     Place(low)
 }

@@ -14,7 +14,7 @@ pub enum Found {
 
 // The hash bucket of a position among c. Positions come at regular distances when a player plays in time; the multiplication spreads them.
 fn bucket(p: u32, c: usize) -> usize
-    requires { ⌜ (0 < c) × (c ≤ 8254) ⌝ }
+    requires { ⌜ (0 < c) × (c ≤ 16446) ⌝ }
     ensures { λ r. ⌜ (r < c) × (r ≡ bucketOf p c) ⌝ }
 {
     let x = (p as usize) * 2654435769 % 4294967296;
@@ -90,7 +90,7 @@ pub fn clear(area: &mut [u64], c: usize)
     if c == 0 {
         return;
     }
-    if 8254 < c {
+    if 16446 < c {
         return;
     }
     if n < 16 + 8 * c {

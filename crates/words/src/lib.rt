@@ -8,13 +8,9 @@ pub fn to_word(v: i32) -> u64
     (v as i64 + 2147483648) as u64
 }
 
-// A word that no value has reads as 0.
+// The value of a word's lower half, so that every word has one.
 pub fn from_word(w: u64) -> i32
     ensures { λ r. ⌜ r ≡ valueOf w ⌝ }
 {
-    if w < 4294967296 {
-        (w as i64 - 2147483648) as i32
-    } else {
-        0
-    }
+    ((w % 4294967296) as i64 - 2147483648) as i32
 }

@@ -1,17 +1,16 @@
--- `stack::covering` meets its contract. The run that has the row, if one has, stays at a place from `low` up and below `high`; each
--- turn leaves one half of these places, until one is left.
-use Prim.Native.Nat.{_-_}
+-- `stack::covering` meets its contract. The run that has the row, if one has, stays at one of the `size` places from `low` up; each turn leaves
+-- about half of these places, until one is left.
 use native.Mathlib.Omega.{arith}
+use Rattle.stack.proofs.Halving.{Between, whole, turn, found}
 use borrow.Author.Needs.{needs}
-use Rattle.stack.proofs.Halving.{Between, whole, upper, lower, found}
 use Rattle.stack.proofs.covering.Statement.{statement}
 use Rattle.stack.proofs.covering.Tie as tie
 
 abbrev Inv-loop : tie.InvT-loop
-Inv-loop area h low₀ high₀ low high = Between area h high₀ low high
+Inv-loop area h low₀ size₀ low size = Between area (h) size₀ low size
 
 abbrev μ-loop : tie.MeasureT-loop
-μ-loop area h low₀ high₀ low high = high - low
+μ-loop area h low₀ size₀ low size = size
 
 read-header-requires : tie.Need-read-header-requires Inv-loop μ-loop
 read-header-requires c κs = search needs
@@ -19,20 +18,17 @@ read-header-requires c κs = search needs
 loop-holds : tie.Need-loop-holds Inv-loop μ-loop
 loop-holds c = whole _ _ _
 
-add-loop : tie.Need-add-loop Inv-loop μ-loop
-add-loop c = search needs
-
-add-middle : tie.Need-add-middle Inv-loop μ-loop
-add-middle c = search needs
+add-first : tie.Need-add-first Inv-loop μ-loop
+add-first c = search needs
 
 mul-first : tie.Need-mul-first Inv-loop μ-loop
 mul-first c = search needs
 
-add-first : tie.Need-add-first Inv-loop μ-loop
-add-first c = search needs
-
 add-first-2 : tie.Need-add-first-2 Inv-loop μ-loop
 add-first-2 c = search needs
+
+add-first-3 : tie.Need-add-first-3 Inv-loop μ-loop
+add-first-3 c = search needs
 
 mul-first-2 : tie.Need-mul-first-2 Inv-loop μ-loop
 mul-first-2 c = search needs
@@ -40,17 +36,20 @@ mul-first-2 c = search needs
 shared-slice-read-first : tie.Need-shared-slice-read-first Inv-loop μ-loop
 shared-slice-read-first c = omega (arith, c .before .before .before .read-header .ensures .wide (omega arith))
 
+onward-requires : tie.Need-onward-requires Inv-loop μ-loop
+onward-requires c κs = search needs
+
+add-low : tie.Need-add-low Inv-loop μ-loop
+add-low c = record { fits = omega (arith, c .onward .ensures .0, c .before .before .before .loop .inv .within, c .before .before .before .before .read-header .ensures .high) }
+
+sub-size : tie.Need-sub-size Inv-loop μ-loop
+sub-size c = search needs
+
 loop-less : tie.Need-loop-less Inv-loop μ-loop
 loop-less c = search needs
 
 loop-again : tie.Need-loop-again Inv-loop μ-loop
-loop-again c = upper (c .before .before .before .loop .inv) (omega arith) (omega arith) (omega arith)
-
-loop-less-2 : tie.Need-loop-less-2 Inv-loop μ-loop
-loop-less-2 c = search needs
-
-loop-again-2 : tie.Need-loop-again-2 Inv-loop μ-loop
-loop-again-2 c = lower (c .before .before .before .loop .inv) (omega arith) (omega arith) (omega arith)
+loop-again c = turn (c .before .before .before .loop .inv) (omega arith) (c .onward .ensures .1) (c .onward .ensures .2)
 
 returns : tie.Need-returns Inv-loop μ-loop
 returns c = found (c .before .before .read-header .ensures) (c .before .loop .inv) (omega arith)
@@ -63,15 +62,15 @@ covering-spec =
     μ-loop
     read-header-requires
     loop-holds
-    add-loop
-    add-middle
-    mul-first
     add-first
+    mul-first
     add-first-2
+    add-first-3
     mul-first-2
     shared-slice-read-first
+    onward-requires
+    add-low
+    sub-size
     loop-less
     loop-again
-    loop-less-2
-    loop-again-2
     returns)
