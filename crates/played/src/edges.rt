@@ -1,0 +1,60 @@
+// Answers that document 01 implies and its examples do not show, a line each.
+use crate::call;
+use crate::examples;
+use crate::lent;
+use crate::print;
+use crate::rounds;
+use crate::script;
+
+// A length other than the opening's is refused, and changes nothing for the next command.
+fn other_lengths() {
+    let mut area = [0u64; 577];
+    let s = call::open_first(&mut area, 576);
+    let s = script::run_first(s, &mut area, 575, b"V1");
+    let s = script::run_first(s, &mut area, 577, b"V1");
+    let s = script::run_first(s, &mut area, 0, b"V1");
+    let s = script::run_first(s, &mut area, 576, b"V1");
+    print::end(s);
+}
+
+// After a refused opening every command is refused, whatever is lent.
+fn unopened() {
+    let mut area = [0u64; 576];
+    let s = call::open_first(&mut area, 575);
+    let s = script::run_first(s, &mut area, 575, b"V1 M Q1 C1");
+    let s = script::run_first(s, &mut area, 576, b"V1 M Q1 C1");
+    let s = script::run_first(s, &mut area, 0, b"V1 M Q1 C1");
+    print::end(s);
+}
+
+// Two marks share a dip, with K = 2.
+fn shared_dip() {
+    let mut area = [0u64; 640];
+    let s = call::open(&mut area);
+    let s = script::run(s, &mut area, b"V5 M V5 M Q1 Q2");
+    print::end(s);
+}
+
+// An older mark keeps its dip through many rounds, whose closed marks are recovered by rebuilds. The area is opened for 4,096 marks, and two
+// at most are active together: the words from 512 + 64 * 2 on keep the pattern.
+fn rebuilds() {
+    let mut area = [0u64; 262656];
+    lent::fill(&mut area);
+    let s = call::open(&mut area);
+    let s = script::run(s, &mut area, b"V9 M V8 M V3 C1");
+    let s = rounds::play(s, &mut area, 5, 10000);
+    let s = script::run(s, &mut area, b"Q2 Q1");
+    print::session(s);
+    lent::print_changed(&area, 640);
+}
+
+pub fn sequences() {
+    other_lengths();
+    // Refusals in a row leave position 2 unmarked, and it is marked once a Close makes room.
+    examples::play(b"V1 M V2 M M Q2 C2 M C1 M Q2");
+    // Among equal values the latest place counts, also after a greater one.
+    examples::play(b"V3 M V3 V4 V3 Q1");
+    shared_dip();
+    rebuilds();
+    unopened();
+}

@@ -1,0 +1,107 @@
+// A case of each refusal of a command, 4 to 11: a refused command changes no word and nothing in the session.
+use crate::call;
+use crate::lent;
+use crate::print;
+use crate::script;
+use history::Position;
+use history::Session;
+use history::Standing;
+
+fn standing_number(s: Standing) -> u8 {
+    match s {
+        Standing::None => 0,
+        Standing::Unmarked => 1,
+        Standing::Marked => 2,
+        Standing::Closed => 3,
+    }
+}
+
+fn is_same(a: Session, b: Session) -> bool {
+    if a.words != b.words {
+        return false;
+    }
+    if a.limit != b.limit {
+        return false;
+    }
+    let p = a.present;
+    let q = b.present;
+    if p.0 != q.0 {
+        return false;
+    }
+    if a.last != b.last {
+        return false;
+    }
+    if a.active != b.active {
+        return false;
+    }
+    let before = a.standing;
+    let after = b.standing;
+    standing_number(before) == standing_number(after)
+}
+
+// A refused command, lent the first n words: its reply, how many words of the area it changed, and whether it changed the session.
+fn refused(s: Session, area: &mut [u64; 577], n: usize, script: &[u8]) {
+    let before = *area;
+    let after = script::run_first(s, area, n, script);
+    print::number(lent::differing(&before, area) as u64);
+    print::text(b" words changed, session ");
+    if is_same(s, after) {
+        print::text(b"equal\n");
+    } else {
+        print::text(b"changed\n");
+    }
+}
+
+// 7, 5, 8 and 11, up to one active mark.
+fn before_full(s: Session, area: &mut [u64; 577]) -> Session {
+    refused(s, area, 576, b"M");
+    let s = script::run_first(s, area, 576, b"V1");
+    refused(s, area, 575, b"V2");
+    refused(s, area, 577, b"V2");
+    let s = script::run_first(s, area, 576, b"M");
+    refused(s, area, 576, b"M");
+    refused(s, area, 576, b"Q2");
+    s
+}
+
+// 10, 11 and 9, from one active mark on.
+fn from_full(s: Session, area: &mut [u64; 577]) {
+    let s = script::run_first(s, area, 576, b"V2");
+    refused(s, area, 576, b"M");
+    refused(s, area, 576, b"C2");
+    let s = script::run_first(s, area, 576, b"C1 M C2");
+    refused(s, area, 576, b"M");
+    refused(s, area, 576, b"Q2");
+}
+
+// 6, in a session made by hand: no run here is as long.
+fn at_last_position(area: &mut [u64; 577]) {
+    let s = Session {
+        words: 576,
+        limit: 1,
+        present: Position(4294967295),
+        last: -8,
+        active: 0,
+        standing: Standing::Unmarked,
+    };
+    refused(s, area, 576, b"V1");
+}
+
+// 4, after a refused opening.
+fn unopened(area: &mut [u64; 577]) {
+    let s = call::open_first(area, 575);
+    refused(s, area, 575, b"V1");
+    refused(s, area, 576, b"M");
+    refused(s, area, 577, b"Q1");
+    refused(s, area, 0, b"C1");
+}
+
+pub fn sequences() {
+    let mut area = [0u64; 577];
+    lent::fill(&mut area);
+    let s = call::open_first(&mut area, 576);
+    let s = before_full(s, &mut area);
+    from_full(s, &mut area);
+    at_last_position(&mut area);
+    unopened(&mut area);
+}
