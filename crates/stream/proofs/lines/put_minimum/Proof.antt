@@ -1,0 +1,53 @@
+use borrow.Author.Needs.{needs}
+use Rattle.stream.proofs.lines.put_minimum.Statement.{statement}
+use Rattle.stream.proofs.lines.put_minimum.Tie as tie
+use Rattle.stream.proofs.lines.put_minimum.Reads as reads
+use Rattle.stream.proofs.lines.put_minimum.Lts as lts
+use Rattle.stream.proofs.text.put.Reads as put-reads
+use Rattle.stream.proofs.text.put_number.Reads as put-number-reads
+use Rattle.stream.proofs.text.put_signed.Reads as put-signed-reads
+
+-- src/lines.rt:40:38
+slice-aggregate-put : tie.Need-slice-aggregate-put
+slice-aggregate-put c = search needs
+
+-- src/lines.rt:40:28
+put-requires : tie.Need-put-requires
+put-requires c κs = search needs
+
+-- src/lines.rt:40:9
+put-signed-requires : tie.Need-put-signed-requires
+put-signed-requires c κs = search needs
+
+-- src/lines.rt:42:27
+slice-aggregate-put-2 : tie.Need-slice-aggregate-put-2
+slice-aggregate-put-2 c = search needs
+
+-- src/lines.rt:42:16
+put-requires-2 : tie.Need-put-requires-2
+put-requires-2 c κs = search needs
+
+-- src/lines.rt:42:34
+cast-put-number : tie.Need-cast-put-number
+cast-put-number c = search needs
+
+-- src/lines.rt:42:5
+put-number-requires : tie.Need-put-number-requires
+put-number-requires c κs = search needs
+
+-- src/lines.rt:36:1
+returns : tie.Need-returns
+returns c = ?
+
+pub put-minimum-spec : {M : Type 1} → statement M
+put-minimum-spec =
+    tie.close
+    (tie.spec
+    slice-aggregate-put
+    put-requires
+    put-signed-requires
+    slice-aggregate-put-2
+    put-requires-2
+    cast-put-number
+    put-number-requires
+    returns)

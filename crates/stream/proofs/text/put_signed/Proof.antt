@@ -1,0 +1,53 @@
+use borrow.Author.Needs.{needs}
+use Rattle.stream.proofs.text.put_signed.Statement.{statement}
+use Rattle.stream.proofs.text.put_signed.Tie as tie
+use Rattle.stream.proofs.text.put_signed.Reads as reads
+use Rattle.stream.proofs.text.put_signed.Lts as lts
+use Rattle.stream.proofs.text.magnitude.Reads as magnitude-reads
+use Rattle.stream.proofs.text.put.Reads as put-reads
+use Rattle.stream.proofs.text.put_number.Reads as put-number-reads
+
+-- src/text.rt:66:37
+slice-aggregate-put : tie.Need-slice-aggregate-put
+slice-aggregate-put c = search needs
+
+-- src/text.rt:66:27
+put-requires : tie.Need-put-requires
+put-requires c κs = search needs
+
+-- src/text.rt:66:44
+magnitude-requires : tie.Need-magnitude-requires
+magnitude-requires c κs = search needs
+
+-- src/text.rt:66:9
+put-number-requires : tie.Need-put-number-requires
+put-number-requires c κs = search needs
+
+-- src/text.rt:66:9
+returns : tie.Need-returns
+returns c = ?
+
+-- src/text.rt:68:22
+magnitude-requires-2 : tie.Need-magnitude-requires-2
+magnitude-requires-2 c κs = search needs
+
+-- src/text.rt:68:5
+put-number-requires-2 : tie.Need-put-number-requires-2
+put-number-requires-2 c κs = search needs
+
+-- src/text.rt:61:1
+returns-2 : tie.Need-returns-2
+returns-2 c = ?
+
+pub put-signed-spec : {M : Type 1} → statement M
+put-signed-spec =
+    tie.close
+    (tie.spec
+    slice-aggregate-put
+    put-requires
+    magnitude-requires
+    put-number-requires
+    returns
+    magnitude-requires-2
+    put-number-requires-2
+    returns-2)
