@@ -1,3 +1,5 @@
 pub mod Copies
 pub mod Decimals
 pub mod Signs
+pub mod Chains
+pub mod Runs

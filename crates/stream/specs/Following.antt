@@ -3,7 +3,7 @@ use mathlib.Core.Path.{_≡_}
 use mathlib.Core.Bool.{cond}
 use mathlib.Core.List.{List}
 use mathlib.Core.Option.{none}
-use Prim.Native.Nat.{ℕ, _+_}
+use Prim.Native.Nat.{ℕ, _+_, _≤_}
 use lib.Dec.{eqb}
 use lib.ListN.{length, drop}
 use Rattle.history.specs.declared.Command.{Command}
@@ -38,3 +38,14 @@ pub record Ran (h : History) (n : ℕ) (bytes : List ℕ) (r : Run) : Type 0 whe
 -- the same of a session and the words `before`, whatever history they keep
 abbrev pub RanFrom : Session → List ℕ → List ℕ → Run → Type 0
 RanFrom s before bytes r = (h : History) (lent : List ℕ) → Represents h lent s before → Ran h (length before) bytes r
+
+-- a run goes on by one command, lent the words `before`: it is counted as read, as accepted where the bookkeeper accepts it, and the session and the words follow
+-- the paper; of words that keep no history, no more are accepted than are read
+pub record GoesOn (run : Run) (command : Command) (before after : List ℕ) (r : Run) : Type 0 where
+  pub long : length after ≡ length before
+  pub read : r .read ≡ run .read + 1
+  pub few : r .accepted ≤ r .read
+  pub accepted : (h : History) (lent : List ℕ) → Represents h lent (run .session) before
+      → r .accepted ≡ run .accepted + acceptances (step h (length before) command .tells)
+  pub represents : (h : History) (lent : List ℕ) → Represents h lent (run .session) before
+      → Represents (step h (length before) command .history) lent (r .session) after

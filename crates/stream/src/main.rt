@@ -7,7 +7,7 @@ ghost use Prim.Native.Nat.{_+_, _<_, _≤_};
 ghost use lib.ListN.{length};
 ghost use Rattle.history.specs.Replies.{told};
 ghost use Rattle.history.specs.Bookkeeper.{opening};
-ghost use Rattle.stream.specs.Following.{acceptances, Ran, RanFrom};
+ghost use Rattle.stream.specs.Following.{acceptances, GoesOn, Ran, RanFrom};
 use history::Command;
 use history::Reply;
 use history::Session;
@@ -35,8 +35,10 @@ fn acceptances_of(reply: Reply) -> usize
     if history::reply_number(reply) == 0 { 1 } else { 0 }
 }
 
+// The next command of a run, with its line.
 fn step(run: Run, area: &mut [u64], command: Command) -> Run
-    requires { ⌜ (run .accepted ≤ run .read) × (run .read < 16384) ⌝ }
+    requires { ⌜ (run .accepted ≤ run .read) × (run .read < 18446744073709551615) ⌝ }
+    ensures { λ r. ⌜ GoesOn run command (now (area .entry)) (now (area .exit)) r ⌝ }
 {
     let read = run.read + 1;
     let answer = engine::apply(run.session, area, command);

@@ -1,4 +1,6 @@
 use borrow.Author.Needs.{needs}
+use native.Mathlib.Omega.{arith}
+use Rattle.stream.proofs.Chains.{then, whole}
 use Rattle.stream.proofs.lines.answer.Statement.{statement}
 use Rattle.stream.proofs.lines.answer.Tie as tie
 use Rattle.stream.proofs.lines.answer.Reads as reads
@@ -59,7 +61,15 @@ put-requires-4 c κs = search needs
 
 -- src/lines.rt:58:1
 returns : tie.Need-returns
-returns c = ?
+returns c =
+    let r = c .before .before in
+    let k = r .before .before .before in
+    let l = k .before .before in
+    let n = l .before .before .before in
+    rw (← (l .letter .ensures))
+    (whole (n .before .empty .ensures) (omega arith)
+    (then (n .put-number .ensures)
+    (then (l .before .put .ensures) (then (k .put2 .ensures) (then (r .before .put3 .ensures) (then (r .put-reply .ensures) (c .put4 .ensures)))))))
 
 pub answer-spec : {M : Type 1} → statement M
 answer-spec =

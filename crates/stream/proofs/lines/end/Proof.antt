@@ -1,4 +1,6 @@
 use borrow.Author.Needs.{needs}
+use native.Mathlib.Omega.{arith}
+use Rattle.stream.proofs.Chains.{then, whole}
 use Rattle.stream.proofs.lines.end.Statement.{statement}
 use Rattle.stream.proofs.lines.end.Tie as tie
 use Rattle.stream.proofs.lines.end.Reads as reads
@@ -57,7 +59,15 @@ put-requires-4 c κs = search needs
 
 -- src/lines.rt:74:1
 returns : tie.Need-returns
-returns c = ?
+returns c =
+    let a = c .before .before in
+    let p = a .before .before .before in
+    let r = p .before .before .before in
+    let s = r .before in
+    whole (s .before .before .empty .ensures) (omega arith)
+    (then (s .put .ensures)
+    (then (r .put-number .ensures)
+    (then (p .before .put2 .ensures) (then (p .put-number2 .ensures) (then (a .before .put3 .ensures) (then (a .put-number3 .ensures) (c .put4 .ensures)))))))
 
 pub end-spec : {M : Type 1} → statement M
 end-spec =

@@ -1,4 +1,8 @@
 use borrow.Author.Needs.{needs}
+use mir.Syntax.{w32}
+use mir.Val.{SFits}
+use mir.Facts.{toZ-ofZ}
+use Rattle.stream.proofs.Chains.{then}
 use Rattle.stream.proofs.lines.put_minimum.Statement.{statement}
 use Rattle.stream.proofs.lines.put_minimum.Tie as tie
 use Rattle.stream.proofs.lines.put_minimum.Reads as reads
@@ -36,8 +40,15 @@ put-number-requires : tie.Need-put-number-requires
 put-number-requires c κs = search needs
 
 -- src/lines.rt:36:1
+-- the value is one of 32 bits
+fits : (c : tie.Start) → SFits w32 (c .args .minimum .value)
+fits c = search needs
+
 returns : tie.Need-returns
-returns c = ?
+returns c =
+    let p = c .before .before in
+    let v = p .before .before .before in
+    then (v .before .before .put .ensures) (then (simp (toZ-ofZ, fits (v .before .before .before .before)) at (v .put-signed .ensures)) (then (p .put2 .ensures) (c .put-number .ensures)))
 
 pub put-minimum-spec : {M : Type 1} → statement M
 put-minimum-spec =

@@ -1,4 +1,8 @@
 use borrow.Author.Needs.{needs}
+use mathlib.Core.Path.{ap}
+use Rattle.history.specs.declared.Reply.{Reply}
+use Rattle.history.specs.Replies.{told}
+use Rattle.stream.proofs.Chains.{shows, bare}
 use Rattle.stream.proofs.lines.put_reply.Statement.{statement}
 use Rattle.stream.proofs.lines.put_reply.Tie as tie
 use Rattle.stream.proofs.lines.put_reply.Reads as reads
@@ -37,15 +41,21 @@ enum-told-2 c = search needs
 
 -- src/lines.rt:45:1
 returns : tie.Need-returns
-returns c = ?
+returns c =
+    let n = c .before .before .before .before in
+    shows _ (n .before .reply-number .ensures) (ap (λ (r : Reply). told r .shown) (c .before .before .reply .given .1)) (n .put-number .ensures) (c .put-minimum .ensures)
 
 -- src/lines.rt:45:1
 returns-2 : tie.Need-returns-2
-returns-2 c = ?
+returns-2 c =
+    let n = c .before .before in
+    bare _ (n .before .reply-number .ensures) (ap (λ (r : Reply). told r .shown) (c .enum-told .given .1)) (n .put-number .ensures)
 
 -- src/lines.rt:45:1
 returns-3 : tie.Need-returns-3
-returns-3 c = ?
+returns-3 c =
+    let n = c .before .before in
+    bare _ (n .before .reply-number .ensures) (ap (λ (r : Reply). told r .shown) (c .enum-told2 .given .1)) (n .put-number .ensures)
 
 pub put-reply-spec : {M : Type 1} → statement M
 put-reply-spec =

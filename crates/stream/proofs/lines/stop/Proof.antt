@@ -1,4 +1,6 @@
 use borrow.Author.Needs.{needs}
+use native.Mathlib.Omega.{arith}
+use Rattle.stream.proofs.Chains.{then, whole}
 use Rattle.stream.proofs.lines.stop.Statement.{statement}
 use Rattle.stream.proofs.lines.stop.Tie as tie
 use Rattle.stream.proofs.lines.stop.Reads as reads
@@ -54,7 +56,14 @@ put-requires-3 c κs = search needs
 
 -- src/lines.rt:66:1
 returns : tie.Need-returns
-returns c = ?
+returns c =
+    let n = c .before .before in
+    let t = n .before .before in
+    let o = t .before .before in
+    let s = o .before in
+    rw (← (n .before .number .ensures))
+    (whole (s .before .before .empty .ensures) (omega arith)
+    (then (s .put .ensures) (then (o .put-number .ensures) (then (t .put2 .ensures) (then (n .put-number2 .ensures) (c .put3 .ensures))))))
 
 pub stop-spec : {M : Type 1} → statement M
 stop-spec =

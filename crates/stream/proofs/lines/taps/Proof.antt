@@ -1,4 +1,6 @@
 use borrow.Author.Needs.{needs}
+use native.Mathlib.Omega.{arith}
+use Rattle.stream.proofs.Chains.{then, whole}
 use Rattle.stream.proofs.lines.taps.Statement.{statement}
 use Rattle.stream.proofs.lines.taps.Tie as tie
 use Rattle.stream.proofs.lines.taps.Reads as reads
@@ -33,7 +35,10 @@ put-requires-2 c κs = search needs
 
 -- src/lines.rt:18:1
 returns : tie.Need-returns
-returns c = ?
+returns c =
+    let n = c .before .before in
+    let s = n .before in
+    whole (s .before .before .empty .ensures) (omega arith) (then (s .put .ensures) (then (n .put-number .ensures) (c .put2 .ensures)))
 
 pub taps-spec : {M : Type 1} → statement M
 taps-spec =

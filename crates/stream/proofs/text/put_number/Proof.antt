@@ -1,4 +1,11 @@
 use borrow.Author.Needs.{needs}
+use mathlib.Core.Path.{ap, _≡_, _∙_}
+use mathlib.Core.List.{List, _++_}
+use Prim.Native.Nat.{ℕ, _≤_}
+use native.Mathlib.Omega.{arith}
+use lib.ListN.{length, length-take}
+use Rattle.stream.specs.Writing.{written}
+use Rattle.stream.proofs.Decimals.{spelled, few}
 use Rattle.stream.proofs.text.put_number.Statement.{statement}
 use Rattle.stream.proofs.text.put_number.Tie as tie
 use Rattle.stream.proofs.text.put_number.Reads as reads
@@ -6,7 +13,10 @@ use Rattle.stream.proofs.text.put_number.Lts as lts
 use Rattle.io.proofs.decimal.Reads as decimal-reads
 use Rattle.stream.proofs.text.put.Reads as put-reads
 
--- src/text.rt:46:9
+-- there are no more digits than the array holds
+fewer : (c : tie.After-decimal) → c .decimal .result ≤ 20
+fewer c = few _ _ (c .before .before .fits .n .fits) (c .decimal .ensures .1 .0)
+
 decimal-requires : tie.Need-decimal-requires
 decimal-requires c κs = search needs
 
@@ -20,11 +30,16 @@ slice-aggregate-put c = search needs
 
 -- src/text.rt:47:5
 put-requires : tie.Need-put-requires
-put-requires c κs = search needs
+put-requires c κs = simp length-take (omega (arith, fewer (c .before)))
 
 -- src/text.rt:41:1
 returns : tie.Need-returns
-returns c = ?
+returns c =
+    let d = c .before .before in
+    record {
+      says = c .put .ensures .says ∙ ap (λ (t : List ℕ). written (d .before .before .args .line) ++ t) (d .decimal .ensures .1 .1 ∙ spelled 20 _ _ (fewer d) (d .decimal .ensures .1 .0));
+      fits = omega (arith, fewer d, simp length-take at (c .put .ensures .fits));
+    }
 
 pub put-number-spec : {M : Type 1} → statement M
 put-number-spec =

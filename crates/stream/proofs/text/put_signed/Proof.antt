@@ -1,4 +1,8 @@
 use borrow.Author.Needs.{needs}
+use native.Mathlib.Omega.{arith}
+use mir.Facts.{toZ-ofZ}
+use Rattle.stream.proofs.Signs.{minus-text, plain-text}
+use Rattle.stream.proofs.Chains.{then, wider}
 use Rattle.stream.proofs.text.put_signed.Statement.{statement}
 use Rattle.stream.proofs.text.put_signed.Tie as tie
 use Rattle.stream.proofs.text.put_signed.Reads as reads
@@ -25,7 +29,11 @@ put-number-requires c κs = search needs
 
 -- src/text.rt:66:9
 returns : tie.Need-returns
-returns c = ?
+returns c =
+    let m = c .before in
+    let s = m .before .before .before .before in
+    rw (minus-text (s .args .v) (simp (toZ-ofZ, s .fits .v) at (m .before .before .before .if1 .taken)), ← (simp (toZ-ofZ, s .fits .v) at (m .magnitude .ensures)))
+    (then (m .before .put .ensures) (c .put-number .ensures))
 
 -- src/text.rt:68:22
 magnitude-requires-2 : tie.Need-magnitude-requires-2
@@ -37,7 +45,10 @@ put-number-requires-2 c κs = search needs
 
 -- src/text.rt:61:1
 returns-2 : tie.Need-returns-2
-returns-2 c = ?
+returns-2 c =
+    let m = c .before in
+    let s = m .before .before in
+    rw (plain-text (s .args .v) (simp (toZ-ofZ, s .fits .v) at (m .before .if1 .left)), ← (simp (toZ-ofZ, s .fits .v) at (m .magnitude2 .ensures))) (wider (omega arith) (c .put-number2 .ensures))
 
 pub put-signed-spec : {M : Type 1} → statement M
 put-signed-spec =
