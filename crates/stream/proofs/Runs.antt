@@ -11,10 +11,10 @@ use lib.Seq.{take-all}
 use Rattle.history.specs.declared.Command.{Command}
 use Rattle.history.specs.declared.Session.{Session}
 use Rattle.history.specs.Replies.{Told}
-use Rattle.history.specs.Bookkeeper.{History}
+use Rattle.history.specs.Bookkeeper.{History, step}
 use Rattle.reading.specs.declared.Reading.{Reading}
 use Rattle.reading.specs.declared.Reading.the-variants.{Next}
-use Rattle.reading.specs.Outcomes.{Outcome, readAs, readingOf}
+use Rattle.reading.specs.Outcomes.{Outcome, next, readAs, readingOf}
 use Rattle.reading.proofs.Lengths.{next-within}
 use Rattle.engine.specs.Keeping.{Represents}
 use Rattle.stream.specs.declared.Run.{Run}
@@ -30,7 +30,7 @@ at-most-one t = go (eqb (t .number) 0)
 
 -- the rest of a stream, as it is lent, is all that is behind a place
 pub rest : (s : List ℕ) (at : ℕ) → take (length s - at) (drop at s) ≡ drop at s
-rest s at = take-all _ _ (simp length-drop (omega arith))
+rest s at = take-all (length s - at) (drop at s) (simp length-drop (omega arith))
 
 -- a bookkeeper with the paper h has come as far as the run, and the session and the words keep the paper
 pub record Reached (h : History) (n : ℕ) (bytes lent words : List ℕ) (run : Run) (at : ℕ) : Type 0 where
@@ -57,24 +57,34 @@ under-start bytes before s = record {
 }
 
 -- a command that is read moves the place, and leaves it within the stream
-pub moves : {bytes : List ℕ} {at : ℕ} {g : Reading} {command : Command} {used : ℕ} → at ≤ length bytes
+pub moves : (bytes : List ℕ) (at : ℕ) {g : Reading} {command : Command} {used : ℕ} → at ≤ length bytes
     → readAs g ≡ readingOf (take (length bytes - at) (drop at bytes)) → g ≡ Next command used → (1 ≤ used) × (at + used ≤ length bytes)
-moves {bytes} {at} l e n =
+moves bytes at l e n =
     let w = next-within (drop at bytes) (e ∙ ap readingOf (rest bytes at)) n in
     (w .0, omega (arith, w .1, length-drop at bytes))
+
+-- the bookkeeper comes one command further, and so do the session and the words
+reached-more : {h : History} {n : ℕ} {bytes lent words after : List ℕ} {run r : Run} {at used : ℕ} {command : Command}
+    → Reached h n bytes lent words run at → readingOf (drop at bytes) ≡ next command used → length words ≡ n → GoesOn run command words after r
+    → Reached h n bytes lent after r (at + used)
+reached-more {n} {lent} {used} {command} p e l o = record {
+  paper = step (p .paper) n command .history;
+  followed = rw (o .read, o .accepted (p .paper) lent (p .represents), l) (Followed.more command used (p .followed) e);
+  represents = rw l at (o .represents (p .paper) lent (p .represents));
+}
 
 -- one command more
 pub under-more : {bytes before words after : List ℕ} {s : Session} {run r : Run} {at : ℕ} {g : Reading} {command : Command} {used : ℕ}
     → Under bytes before s words run at → readAs g ≡ readingOf (take (length bytes - at) (drop at bytes)) → g ≡ Next command used → GoesOn run command words after r
     → Under bytes before s after r (at + used)
-under-more {bytes} {before} {words} {after} {s} {run} {r} {at} {g} {command} {used} u e n o =
-    let m = moves {bytes} {at} (u .within) e n in
+under-more {bytes} {at} u e n o =
+    let m = moves bytes at (u .within) e n in
     record {
       within = m .1;
       few = o .few;
       read = omega (arith, m .0, u .read, o .read);
       long = o .long ∙ u .long;
-      reached = λ h lent k. ?;
+      reached = λ h lent k. reached-more (u .reached h lent k) (sym (e ∙ ap readingOf (rest bytes at)) ∙ ap readAs n) (u .long) o;
     }
 
 -- no command more
@@ -82,4 +92,4 @@ pub under-end : {bytes before words : List ℕ} {s : Session} {run : Run} {at : 
     → readingOf (take (length bytes - at) (drop at bytes)) .command ≡ none → RanFrom s before bytes run
 under-end {bytes} {at} u e h lent k =
     let p = u .reached h lent k in
-    record { at = at; paper = p .paper; followed = p .followed; stops = rw rest at e; session = p .represents .session }
+    record { at = at; paper = p .paper; followed = p .followed; stops = rw (rest bytes at) at e; session = p .represents .session }

@@ -1,0 +1,136 @@
+use borrow.Author.Needs.{needs}
+use mathlib.Core.Path.{sym, ap, _∙_}
+use Prim.Native.Nat.{_+_, _-_, _≤_}
+use native.Mathlib.Omega.{arith}
+use lib.ListN.{length}
+use Rattle.reading.specs.declared.Reading.{Reading}
+use Rattle.reading.specs.Outcomes.{Outcome, readAs}
+use Rattle.stream.proofs.Runs.{Under, under-start, moves, under-more, under-end}
+use Rattle.stream.proofs.follow.Statement.{statement}
+use Rattle.stream.proofs.follow.Tie as tie
+use Rattle.stream.proofs.follow.Reads as reads
+use Rattle.stream.proofs.follow.Lts as lts
+use Rattle.reading.proofs.read.Reads as read-reads
+use Rattle.stream.proofs.lines.stop.Reads as stop-reads
+use Rattle.stream.proofs.show.Reads as show-reads
+use Rattle.stream.proofs.step.Reads as step-reads
+
+abbrev Inv-loop : tie.InvT-loop
+Inv-loop bytes area₀ run₀ at₀ area run at = Under bytes area₀ (run₀ .session) area run at
+
+abbrev μ-loop : tie.MeasureT-loop
+μ-loop bytes area₀ run₀ at₀ area run at = length bytes - at
+
+-- src/main.rt:65:5
+loop-holds : tie.Need-loop-holds Inv-loop μ-loop
+loop-holds c = under-start (c .before .before .args .bytes .now) (c .before .before .args .area .now) (c .before .before .args .session)
+
+-- src/main.rt:66:37
+sub-read : tie.Need-sub-read Inv-loop μ-loop
+sub-read c = search needs
+
+-- src/main.rt:66:37
+part-read-start : tie.Need-part-read-start Inv-loop μ-loop
+part-read-start c = search needs
+
+-- src/main.rt:66:37
+part-read-end : tie.Need-part-read-end Inv-loop μ-loop
+part-read-end c = search needs
+
+-- src/main.rt:66:13
+read-requires : tie.Need-read-requires Inv-loop μ-loop
+read-requires c κs = search needs
+
+-- src/main.rt:68:29
+enum-told : tie.Need-enum-told Inv-loop μ-loop
+enum-told c = search needs
+
+-- src/main.rt:68:29
+same-length : tie.Need-same-length Inv-loop μ-loop
+same-length c = c .before .before .before .before .loop .inv .long
+
+-- src/main.rt:68:29
+returns : tie.Need-returns Inv-loop μ-loop
+returns c =
+    let l = c .before .before .before .before in
+    under-end (l .loop .inv) (sym (ap (λ (o : Outcome). o .command) (c .before .before .read .ensures)) ∙ ap (λ (g : Reading). readAs g .command) (c .enum-told .given .1))
+
+-- src/main.rt:69:29
+enum-known-reading : tie.Need-enum-known-reading Inv-loop μ-loop
+enum-known-reading c = search needs
+
+-- the command that was read moves the place, and leaves it within the stream
+moved : (c : tie.After-reading Inv-loop μ-loop)
+    → let l = c .before .before .before .before in
+    (1 ≤ c .reading .given .0 .1 .0) × (l .loop .at + c .reading .given .0 .1 .0 ≤ length (l .before .before .before .args .bytes .now))
+moved c =
+    let l = c .before .before .before .before in
+    moves (l .before .before .before .args .bytes .now) (l .loop .at) (l .loop .inv .within) (c .before .before .read .ensures) (c .reading .given .1)
+
+step-requires : tie.Need-step-requires Inv-loop μ-loop
+step-requires c κs =
+    let l = c .before .before .before .before .before .before in
+    (l .loop .inv .few, omega (arith, l .loop .inv .read, moved (c .before .before), l .before .before .before .good .0 .0))
+
+-- src/main.rt:71:17
+add-at : tie.Need-add-at Inv-loop μ-loop
+add-at c = record { fits = omega (arith, moved (c .before .before .before .before .before)) }
+
+-- src/main.rt:65:5
+loop-less : tie.Need-loop-less Inv-loop μ-loop
+loop-less c = omega (arith, moved (c .before .before .before .before .before))
+
+-- src/main.rt:65:5
+loop-again : tie.Need-loop-again Inv-loop μ-loop
+loop-again c =
+    let r = c .before .before .before .before .before in
+    let l = r .before .before .before .before in
+    under-more (l .loop .inv) (r .before .before .read .ensures) (r .reading .given .1) (c .before .before .step .ensures)
+
+-- src/main.rt:73:30
+enum-known-reading-2 : tie.Need-enum-known-reading-2 Inv-loop μ-loop
+enum-known-reading-2 c = search needs
+
+-- src/main.rt:74:22
+stop-requires : tie.Need-stop-requires Inv-loop μ-loop
+stop-requires c κs = search needs
+
+-- src/main.rt:74:17
+show-requires : tie.Need-show-requires Inv-loop μ-loop
+show-requires c κs = search needs
+
+-- src/main.rt:75:17
+same-length-2 : tie.Need-same-length-2 Inv-loop μ-loop
+same-length-2 c = c .before .before .before .before .before .before .before .loop .inv .long
+
+-- src/main.rt:75:17
+returns-2 : tie.Need-returns-2 Inv-loop μ-loop
+returns-2 c =
+    let r = c .before .before .before in
+    let l = r .before .before .before .before in
+    under-end (l .loop .inv) (sym (ap (λ (o : Outcome). o .command) (r .before .before .read .ensures)) ∙ ap (λ (g : Reading). readAs g .command) (r .reading2 .given .1))
+
+pub follow-spec : {M : Type 1} → statement M
+follow-spec =
+    tie.close
+    (tie.spec
+    Inv-loop
+    μ-loop
+    loop-holds
+    sub-read
+    part-read-start
+    part-read-end
+    read-requires
+    enum-told
+    same-length
+    returns
+    enum-known-reading
+    step-requires
+    add-at
+    loop-less
+    loop-again
+    enum-known-reading-2
+    stop-requires
+    show-requires
+    same-length-2
+    returns-2)
