@@ -9,14 +9,16 @@ use lib.Dec.{eqb}
 use lib.ListN.{length, take, drop, length-drop}
 use lib.Seq.{take-all}
 use Rattle.history.specs.declared.Command.{Command}
+use Rattle.history.specs.declared.Answer.{Answer}
 use Rattle.history.specs.declared.Session.{Session}
 use Rattle.history.specs.Replies.{Told}
-use Rattle.history.specs.Bookkeeper.{History, step}
+use Rattle.history.specs.Bookkeeper.{History, step, opening}
 use Rattle.reading.specs.declared.Reading.{Reading}
 use Rattle.reading.specs.declared.Reading.the-variants.{Next}
 use Rattle.reading.specs.Outcomes.{Outcome, next, readAs, readingOf}
 use Rattle.reading.proofs.Lengths.{next-within}
 use Rattle.engine.specs.Keeping.{Represents}
+use Rattle.engine.specs.Calls.{Opens}
 use Rattle.stream.specs.declared.Run.{Run}
 use Rattle.stream.specs.Following.{acceptances, Followed, Ran, RanFrom, GoesOn}
 
@@ -93,3 +95,8 @@ pub under-end : {bytes before words : List ℕ} {s : Session} {run : Run} {at : 
 under-end {bytes} {at} u e h lent k =
     let p = u .reached h lent k in
     record { at = at; paper = p .paper; followed = p .followed; stops = rw (rest bytes at) at e; session = p .represents .session }
+
+-- a run from an opening of n words
+pub from-opening : {first after bytes : List ℕ} {n : ℕ} {o : Answer} {run : Run} → length first ≡ n → Opens first after o
+    → RanFrom (o .session) after bytes run → Ran (opening n .history) n bytes run
+from-opening {first} l o f = rw l at (rw (o .long) at (f (opening (length first) .history) first (o .represents)))
