@@ -3,3 +3,4 @@ pub mod Decimals
 pub mod Signs
 pub mod Chains
 pub mod Runs
+pub mod Examples

@@ -2,6 +2,7 @@
 // What the lines say is in lines.rt; that they are printed in this order is seen in the stored run.
 mod lines;
 mod text;
+
 ghost use mathlib.Core.Path.{_≡_};
 ghost use Prim.Native.Nat.{_+_, _<_, _≤_};
 ghost use lib.ListN.{length};
@@ -21,18 +22,22 @@ struct Run {
     accepted: usize,
 }
 
-fn show(line: Line) -> bool
+fn show(line: Line)
     requires { ⌜ line .used ≤ 128 ⌝ }
 {
     let used = line.used;
     let text = line.text;
-    io::write_all(1, &text[..used])
+    io::write_all(1, &text[..used]);
 }
 
 fn acceptances_of(reply: Reply) -> usize
     ensures { λ r. ⌜ r ≡ acceptances (told reply) ⌝ }
 {
-    if history::reply_number(reply) == 0 { 1 } else { 0 }
+    if history::reply_number(reply) == 0 {
+        1
+    } else {
+        0
+    }
 }
 
 // The next command of a run, with its line.

@@ -47,7 +47,7 @@ pub fn put_number(line: Line, n: u64) -> Line
     put(line, &digits[..k])
 }
 
-// The least value's too, which has no i32 of its own.
+// The size of a value. That of the least value fits no i32.
 fn magnitude(v: i32) -> u64
     ensures { λ r. ⌜ r ≡ natAbs v ⌝ }
 {

@@ -1,3 +1,5 @@
+-- `stream::follow` meets its contract. The loop's invariant: the bookkeeper, told the commands before the present place, has come as far as the run. Each command that is read
+-- moves the place by a byte or more, so that the measure, what is left of the stream, falls; where none is read the run is whole.
 use borrow.Author.Needs.{needs}
 use mathlib.Core.Path.{sym, ap, _∙_}
 use Prim.Native.Nat.{_+_, _-_, _≤_}
@@ -8,12 +10,6 @@ use Rattle.reading.specs.Outcomes.{Outcome, readAs}
 use Rattle.stream.proofs.Runs.{Under, under-start, moves, under-more, under-end}
 use Rattle.stream.proofs.follow.Statement.{statement}
 use Rattle.stream.proofs.follow.Tie as tie
-use Rattle.stream.proofs.follow.Reads as reads
-use Rattle.stream.proofs.follow.Lts as lts
-use Rattle.reading.proofs.read.Reads as read-reads
-use Rattle.stream.proofs.lines.stop.Reads as stop-reads
-use Rattle.stream.proofs.show.Reads as show-reads
-use Rattle.stream.proofs.step.Reads as step-reads
 
 abbrev Inv-loop : tie.InvT-loop
 Inv-loop bytes area₀ run₀ at₀ area run at = Under bytes area₀ (run₀ .session) area run at
@@ -21,41 +17,32 @@ Inv-loop bytes area₀ run₀ at₀ area run at = Under bytes area₀ (run₀ .s
 abbrev μ-loop : tie.MeasureT-loop
 μ-loop bytes area₀ run₀ at₀ area run at = length bytes - at
 
--- src/main.rt:65:5
 loop-holds : tie.Need-loop-holds Inv-loop μ-loop
 loop-holds c = under-start (c .before .before .args .bytes .now) (c .before .before .args .area .now) (c .before .before .args .session)
 
--- src/main.rt:66:37
 sub-read : tie.Need-sub-read Inv-loop μ-loop
 sub-read c = search needs
 
--- src/main.rt:66:37
 part-read-start : tie.Need-part-read-start Inv-loop μ-loop
 part-read-start c = search needs
 
--- src/main.rt:66:37
 part-read-end : tie.Need-part-read-end Inv-loop μ-loop
 part-read-end c = search needs
 
--- src/main.rt:66:13
 read-requires : tie.Need-read-requires Inv-loop μ-loop
 read-requires c κs = search needs
 
--- src/main.rt:68:29
 enum-told : tie.Need-enum-told Inv-loop μ-loop
 enum-told c = search needs
 
--- src/main.rt:68:29
 same-length : tie.Need-same-length Inv-loop μ-loop
 same-length c = c .before .before .before .before .loop .inv .long
 
--- src/main.rt:68:29
 returns : tie.Need-returns Inv-loop μ-loop
 returns c =
     let l = c .before .before .before .before in
     under-end (l .loop .inv) (sym (ap (λ (o : Outcome). o .command) (c .before .before .read .ensures)) ∙ ap (λ (g : Reading). readAs g .command) (c .enum-told .given .1))
 
--- src/main.rt:69:29
 enum-known-reading : tie.Need-enum-known-reading Inv-loop μ-loop
 enum-known-reading c = search needs
 
@@ -72,38 +59,30 @@ step-requires c κs =
     let l = c .before .before .before .before .before .before in
     (l .loop .inv .few, omega (arith, l .loop .inv .read, moved (c .before .before), l .before .before .before .good .0 .0))
 
--- src/main.rt:71:17
 add-at : tie.Need-add-at Inv-loop μ-loop
 add-at c = record { fits = omega (arith, moved (c .before .before .before .before .before)) }
 
--- src/main.rt:65:5
 loop-less : tie.Need-loop-less Inv-loop μ-loop
 loop-less c = omega (arith, moved (c .before .before .before .before .before))
 
--- src/main.rt:65:5
 loop-again : tie.Need-loop-again Inv-loop μ-loop
 loop-again c =
     let r = c .before .before .before .before .before in
     let l = r .before .before .before .before in
     under-more (l .loop .inv) (r .before .before .read .ensures) (r .reading .given .1) (c .before .before .step .ensures)
 
--- src/main.rt:73:30
 enum-known-reading-2 : tie.Need-enum-known-reading-2 Inv-loop μ-loop
 enum-known-reading-2 c = search needs
 
--- src/main.rt:74:22
 stop-requires : tie.Need-stop-requires Inv-loop μ-loop
 stop-requires c κs = search needs
 
--- src/main.rt:74:17
 show-requires : tie.Need-show-requires Inv-loop μ-loop
 show-requires c κs = search needs
 
--- src/main.rt:75:17
 same-length-2 : tie.Need-same-length-2 Inv-loop μ-loop
 same-length-2 c = c .before .before .before .before .before .before .before .loop .inv .long
 
--- src/main.rt:75:17
 returns-2 : tie.Need-returns-2 Inv-loop μ-loop
 returns-2 c =
     let r = c .before .before .before in

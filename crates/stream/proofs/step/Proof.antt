@@ -1,3 +1,4 @@
+-- `stream::step` meets its contract: `engine::apply` does as the bookkeeper does, and what is added to the counts is read off its reply.
 use borrow.Author.Needs.{needs}
 use mathlib.Core.Path.{refl, ap, _∙_}
 use Prim.Native.Nat.{ℕ, _+_, _≤_}
@@ -7,30 +8,19 @@ use Rattle.stream.specs.Following.{acceptances}
 use Rattle.stream.proofs.Runs.{at-most-one}
 use Rattle.stream.proofs.step.Statement.{statement}
 use Rattle.stream.proofs.step.Tie as tie
-use Rattle.stream.proofs.step.Reads as reads
-use Rattle.stream.proofs.step.Lts as lts
-use Rattle.engine.proofs.apply.Reads as apply-reads
-use Rattle.stream.proofs.acceptances_of.Reads as acceptances-of-reads
-use Rattle.stream.proofs.lines.answer.Reads as answer-reads
-use Rattle.stream.proofs.show.Reads as show-reads
 
--- src/main.rt:43:16
 add-read : tie.Need-add-read
 add-read c = search needs
 
--- src/main.rt:44:9
 apply-requires : tie.Need-apply-requires
 apply-requires c κs = search needs
 
--- src/main.rt:47:10
 answer-requires : tie.Need-answer-requires
 answer-requires c κs = search needs
 
--- src/main.rt:47:5
 show-requires : tie.Need-show-requires
 show-requires c κs = search needs
 
--- src/main.rt:51:34
 acceptances-of-requires : tie.Need-acceptances-of-requires
 acceptances-of-requires c κs = search needs
 
@@ -41,11 +31,9 @@ one c = rw (c .acceptances-of .ensures) (at-most-one (told (c .before .before .b
 add-t13 : tie.Need-add-t13
 add-t13 c = record { fits = omega (arith, (c .before .before .before .before .before .before .before .before .before .before .before .pre), one (c .before)) }
 
--- src/main.rt:39:1
 same-length : tie.Need-same-length
 same-length c = search needs
 
--- src/main.rt:39:1
 returns : tie.Need-returns
 returns c =
     let a = c .before .before .before .before .before .before .before in

@@ -1,63 +1,46 @@
+-- `stream::lines::end` meets its contract: the texts that are put one after the other are those of the line.
 use borrow.Author.Needs.{needs}
 use native.Mathlib.Omega.{arith}
 use Rattle.stream.proofs.Chains.{then, whole}
 use Rattle.stream.proofs.lines.end.Statement.{statement}
 use Rattle.stream.proofs.lines.end.Tie as tie
-use Rattle.stream.proofs.lines.end.Reads as reads
-use Rattle.stream.proofs.lines.end.Lts as lts
-use Rattle.stream.proofs.text.empty.Reads as empty-reads
-use Rattle.stream.proofs.text.put.Reads as put-reads
-use Rattle.stream.proofs.text.put_number.Reads as put-number-reads
 
--- src/lines.rt:77:32
 empty-requires : tie.Need-empty-requires
 empty-requires c κs = search needs
 
--- src/lines.rt:77:41
 slice-aggregate-put : tie.Need-slice-aggregate-put
 slice-aggregate-put c = search needs
 
--- src/lines.rt:77:28
 put-requires : tie.Need-put-requires
 put-requires c κs = search needs
 
--- src/lines.rt:77:9
 put-number-requires : tie.Need-put-number-requires
 put-number-requires c κs = search needs
 
--- src/lines.rt:78:40
 slice-aggregate-put-2 : tie.Need-slice-aggregate-put-2
 slice-aggregate-put-2 c = search needs
 
--- src/lines.rt:78:29
 put-requires-2 : tie.Need-put-requires-2
 put-requires-2 c κs = search needs
 
--- src/lines.rt:78:9
 put-number-requires-2 : tie.Need-put-number-requires-2
 put-number-requires-2 c κs = search needs
 
--- src/lines.rt:79:40
 slice-aggregate-put-3 : tie.Need-slice-aggregate-put-3
 slice-aggregate-put-3 c = search needs
 
--- src/lines.rt:79:28
 put-requires-3 : tie.Need-put-requires-3
 put-requires-3 c κs = search needs
 
--- src/lines.rt:79:9
 put-number-requires-3 : tie.Need-put-number-requires-3
 put-number-requires-3 c κs = search needs
 
--- src/lines.rt:80:16
 slice-aggregate-put-4 : tie.Need-slice-aggregate-put-4
 slice-aggregate-put-4 c = search needs
 
--- src/lines.rt:80:5
 put-requires-4 : tie.Need-put-requires-4
 put-requires-4 c κs = search needs
 
--- src/lines.rt:74:1
 returns : tie.Need-returns
 returns c =
     let a = c .before .before in

@@ -1,3 +1,4 @@
+-- `stream::lines::put_minimum` meets its contract: the texts that are put one after the other are those of the value and the place.
 use borrow.Author.Needs.{needs}
 use mir.Syntax.{w32}
 use mir.Val.{SFits}
@@ -5,41 +6,28 @@ use mir.Facts.{toZ-ofZ}
 use Rattle.stream.proofs.Chains.{then}
 use Rattle.stream.proofs.lines.put_minimum.Statement.{statement}
 use Rattle.stream.proofs.lines.put_minimum.Tie as tie
-use Rattle.stream.proofs.lines.put_minimum.Reads as reads
-use Rattle.stream.proofs.lines.put_minimum.Lts as lts
-use Rattle.stream.proofs.text.put.Reads as put-reads
-use Rattle.stream.proofs.text.put_number.Reads as put-number-reads
-use Rattle.stream.proofs.text.put_signed.Reads as put-signed-reads
 
--- src/lines.rt:40:38
 slice-aggregate-put : tie.Need-slice-aggregate-put
 slice-aggregate-put c = search needs
 
--- src/lines.rt:40:28
 put-requires : tie.Need-put-requires
 put-requires c κs = search needs
 
--- src/lines.rt:40:9
 put-signed-requires : tie.Need-put-signed-requires
 put-signed-requires c κs = search needs
 
--- src/lines.rt:42:27
 slice-aggregate-put-2 : tie.Need-slice-aggregate-put-2
 slice-aggregate-put-2 c = search needs
 
--- src/lines.rt:42:16
 put-requires-2 : tie.Need-put-requires-2
 put-requires-2 c κs = search needs
 
--- src/lines.rt:42:34
 cast-put-number : tie.Need-cast-put-number
 cast-put-number c = search needs
 
--- src/lines.rt:42:5
 put-number-requires : tie.Need-put-number-requires
 put-number-requires c κs = search needs
 
--- src/lines.rt:36:1
 -- the value is one of 32 bits
 fits : (c : tie.Start) → SFits w32 (c .args .minimum .value)
 fits c = search needs

@@ -1,39 +1,28 @@
+-- `stream::lines::taps` meets its contract: the texts that are put one after the other are those of the line.
 use borrow.Author.Needs.{needs}
 use native.Mathlib.Omega.{arith}
 use Rattle.stream.proofs.Chains.{then, whole}
 use Rattle.stream.proofs.lines.taps.Statement.{statement}
 use Rattle.stream.proofs.lines.taps.Tie as tie
-use Rattle.stream.proofs.lines.taps.Reads as reads
-use Rattle.stream.proofs.lines.taps.Lts as lts
-use Rattle.stream.proofs.text.empty.Reads as empty-reads
-use Rattle.stream.proofs.text.put.Reads as put-reads
-use Rattle.stream.proofs.text.put_number.Reads as put-number-reads
 
--- src/lines.rt:21:33
 empty-requires : tie.Need-empty-requires
 empty-requires c κs = search needs
 
--- src/lines.rt:21:42
 slice-aggregate-put : tie.Need-slice-aggregate-put
 slice-aggregate-put c = search needs
 
--- src/lines.rt:21:29
 put-requires : tie.Need-put-requires
 put-requires c κs = search needs
 
--- src/lines.rt:21:9
 put-number-requires : tie.Need-put-number-requires
 put-number-requires c κs = search needs
 
--- src/lines.rt:22:17
 slice-aggregate-put-2 : tie.Need-slice-aggregate-put-2
 slice-aggregate-put-2 c = search needs
 
--- src/lines.rt:22:5
 put-requires-2 : tie.Need-put-requires-2
 put-requires-2 c κs = search needs
 
--- src/lines.rt:18:1
 returns : tie.Need-returns
 returns c =
     let n = c .before .before in

@@ -1,3 +1,5 @@
+-- `stream::text::put` meets its contract. The loop's invariant: the array is the line's, with the text's first i bytes copied behind what was written. The measure is
+-- what is left of the text.
 use borrow.Author.Needs.{needs}
 use Prim.Native.Nat.{_-_, _≤_}
 use mathlib.Core.Path.{_≡_}
@@ -7,8 +9,6 @@ use lib.Seq.{paste, paste-zero}
 use Rattle.stream.proofs.Copies.{copied-more, copied-all}
 use Rattle.stream.proofs.text.put.Statement.{statement}
 use Rattle.stream.proofs.text.put.Tie as tie
-use Rattle.stream.proofs.text.put.Reads as reads
-use Rattle.stream.proofs.text.put.Lts as lts
 
 abbrev Inv-loop : tie.InvT-loop
 Inv-loop text used built₀ i₀ built i = (i ≤ length text) × (built ≡ paste built₀ used text i)
@@ -20,41 +20,32 @@ abbrev μ-loop : tie.MeasureT-loop
 long : (c : tie.Start Inv-loop μ-loop) → length (c .args .line .text) ≡ 128
 long c = search needs
 
--- src/text.rt:31:5
 loop-holds : tie.Need-loop-holds Inv-loop μ-loop
 loop-holds c = (search needs, paste-zero (c .before .args .line .text) (c .before .args .line .used) (c .before .args .text .now))
 
--- src/text.rt:32:27
 shared-slice-read-built : tie.Need-shared-slice-read-built Inv-loop μ-loop
 shared-slice-read-built c = search needs
 
--- src/text.rt:32:15
 add-built : tie.Need-add-built Inv-loop μ-loop
 add-built c = search needs
 
--- src/text.rt:32:9
 array-write-built : tie.Need-array-write-built Inv-loop μ-loop
 array-write-built c = search needs
 
--- src/text.rt:33:9
 add-i : tie.Need-add-i Inv-loop μ-loop
 add-i c = search needs
 
--- src/text.rt:31:5
 loop-less : tie.Need-loop-less Inv-loop μ-loop
 loop-less c = search needs
 
--- src/text.rt:31:5
 loop-again : tie.Need-loop-again Inv-loop μ-loop
 loop-again c =
     let l = c .before .before in
     (search needs, copied-more _ _ _ _ _ (l .loop .inv .1) (omega (arith, long (l .before .before))) (search needs))
 
--- src/text.rt:37:15
 add-t13 : tie.Need-add-t13 Inv-loop μ-loop
 add-t13 c = search needs
 
--- src/text.rt:24:1
 returns : tie.Need-returns Inv-loop μ-loop
 returns c =
     let l = c .before in

@@ -1,3 +1,4 @@
+-- `stream::text::put_number` meets its contract: the fewest digits that hold a number of 64 bits are its decimal digits, at most 20.
 use borrow.Author.Needs.{needs}
 use mathlib.Core.Path.{ap, _≡_, _∙_}
 use mathlib.Core.List.{List, _++_}
@@ -8,10 +9,6 @@ use Rattle.stream.specs.Writing.{written}
 use Rattle.stream.proofs.Decimals.{spelled, few}
 use Rattle.stream.proofs.text.put_number.Statement.{statement}
 use Rattle.stream.proofs.text.put_number.Tie as tie
-use Rattle.stream.proofs.text.put_number.Reads as reads
-use Rattle.stream.proofs.text.put_number.Lts as lts
-use Rattle.io.proofs.decimal.Reads as decimal-reads
-use Rattle.stream.proofs.text.put.Reads as put-reads
 
 -- there are no more digits than the array holds
 fewer : (c : tie.After-decimal) → c .decimal .result ≤ 20
@@ -20,19 +17,15 @@ fewer c = few _ _ (c .before .before .fits .n .fits) (c .decimal .ensures .1 .0)
 decimal-requires : tie.Need-decimal-requires
 decimal-requires c κs = search needs
 
--- src/text.rt:47:15
 array-share-prefix-digits : tie.Need-array-share-prefix-digits
 array-share-prefix-digits c = search needs
 
--- src/text.rt:47:15
 slice-aggregate-put : tie.Need-slice-aggregate-put
 slice-aggregate-put c = search needs
 
--- src/text.rt:47:5
 put-requires : tie.Need-put-requires
 put-requires c κs = simp length-take (omega (arith, fewer (c .before)))
 
--- src/text.rt:41:1
 returns : tie.Need-returns
 returns c =
     let d = c .before .before in

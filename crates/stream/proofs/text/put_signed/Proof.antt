@@ -1,3 +1,4 @@
+-- `stream::text::put_signed` meets its contract: below zero the text is a minus sign and the size, and else the size alone.
 use borrow.Author.Needs.{needs}
 use native.Mathlib.Omega.{arith}
 use mir.Facts.{toZ-ofZ}
@@ -5,29 +6,19 @@ use Rattle.stream.proofs.Signs.{minus-text, plain-text}
 use Rattle.stream.proofs.Chains.{then, wider}
 use Rattle.stream.proofs.text.put_signed.Statement.{statement}
 use Rattle.stream.proofs.text.put_signed.Tie as tie
-use Rattle.stream.proofs.text.put_signed.Reads as reads
-use Rattle.stream.proofs.text.put_signed.Lts as lts
-use Rattle.stream.proofs.text.magnitude.Reads as magnitude-reads
-use Rattle.stream.proofs.text.put.Reads as put-reads
-use Rattle.stream.proofs.text.put_number.Reads as put-number-reads
 
--- src/text.rt:66:37
 slice-aggregate-put : tie.Need-slice-aggregate-put
 slice-aggregate-put c = search needs
 
--- src/text.rt:66:27
 put-requires : tie.Need-put-requires
 put-requires c κs = search needs
 
--- src/text.rt:66:44
 magnitude-requires : tie.Need-magnitude-requires
 magnitude-requires c κs = search needs
 
--- src/text.rt:66:9
 put-number-requires : tie.Need-put-number-requires
 put-number-requires c κs = search needs
 
--- src/text.rt:66:9
 returns : tie.Need-returns
 returns c =
     let m = c .before in
@@ -35,15 +26,12 @@ returns c =
     rw (minus-text (s .args .v) (simp (toZ-ofZ, s .fits .v) at (m .before .before .before .if1 .taken)), ← (simp (toZ-ofZ, s .fits .v) at (m .magnitude .ensures)))
     (then (m .before .put .ensures) (c .put-number .ensures))
 
--- src/text.rt:68:22
 magnitude-requires-2 : tie.Need-magnitude-requires-2
 magnitude-requires-2 c κs = search needs
 
--- src/text.rt:68:5
 put-number-requires-2 : tie.Need-put-number-requires-2
 put-number-requires-2 c κs = search needs
 
--- src/text.rt:61:1
 returns-2 : tie.Need-returns-2
 returns-2 c =
     let m = c .before in
