@@ -1,6 +1,6 @@
 -- The fewest digits that hold a number are its decimal digits.
-use mathlib.Core.Path.{_≡_, refl}
-use Prim.Native.Nat.{ℕ, zero, suc, _*_, _-_, _/_, _%_, _<_, _≤_, _^_}
+use mathlib.Core.Path.{_≡_}
+use Prim.Native.Nat.{ℕ, zero, suc, _*_, _-_, _/_, _<_, _≤_, _^_}
 use native.Mathlib.Nat.{pow-succ', one-le-pow, pow-le-pow-right, mod-eq-of-lt, le-div-iff-mul-le, div-lt-iff-lt-mul}
 use native.Mathlib.Numerals.{sub-one}
 use native.Mathlib.Decide.{decLt}

@@ -3,7 +3,7 @@ use mathlib.Core.Path.{_≡_, refl, sym, ap, _∙_}
 use mathlib.Core.List.{List}
 use mathlib.Core.Option.{none}
 use mathlib.Core.Bool.{Bool, true, false, cond}
-use Prim.Native.Nat.{ℕ, _+_, _-_, _<_, _≤_}
+use Prim.Native.Nat.{ℕ, _+_, _-_, _≤_}
 use native.Mathlib.Omega.{arith}
 use lib.Dec.{eqb}
 use lib.ListN.{length, take, drop, length-drop}
@@ -90,11 +90,19 @@ under-more {bytes} {at} u e n o =
     }
 
 -- no command more
-pub under-end : {bytes before words : List ℕ} {s : Session} {run : Run} {at : ℕ} → Under bytes before s words run at
-    → readingOf (take (length bytes - at) (drop at bytes)) .command ≡ none → RanFrom s before bytes run
-under-end {bytes} {at} u e h lent k =
+pub under-end : {bytes before words : List ℕ} {s : Session} {run : Run} {at : ℕ} {g v : Reading}
+    → Under bytes before s words run at → readAs g ≡ readingOf (take (length bytes - at) (drop at bytes)) → g ≡ v → readAs v .command ≡ none
+    → RanFrom s before bytes run
+under-end {bytes} {at} u e n z h lent k =
     let p = u .reached h lent k in
-    record { at = at; paper = p .paper; followed = p .followed; stops = rw (rest bytes at) at e; session = p .represents .session }
+    let o = sym (e ∙ ap readingOf (rest bytes at)) ∙ ap readAs n in
+    record {
+      at = at;
+      paper = p .paper;
+      followed = p .followed;
+      stops = ap (λ (x : Outcome). x .command) o ∙ z;
+      session = p .represents .session;
+    }
 
 -- a run from an opening of n words
 pub from-opening : {first after bytes : List ℕ} {n : ℕ} {o : Answer} {run : Run} → length first ≡ n → Opens first after o

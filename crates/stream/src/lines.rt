@@ -1,6 +1,5 @@
 // The lines that document 01 has the stream program print.
 ghost use mathlib.Core.Path.{_≡_};
-ghost use mathlib.Core.List.{_++_};
 ghost use Prim.Native.Nat.{_+_, _≤_};
 ghost use Rattle.history.specs.Replies.{numberOf, told};
 ghost use Rattle.stream.specs.Writing.{Adds, Says};

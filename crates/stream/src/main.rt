@@ -40,7 +40,7 @@ fn acceptances_of(reply: Reply) -> usize
     }
 }
 
-// The next command of a run, with its line.
+// The next command of a run, with its line. There is room to count one more.
 fn step(run: Run, area: &mut [u64], command: Command) -> Run
     requires { ⌜ (run .accepted ≤ run .read) × (run .read < 18446744073709551615) ⌝ }
     ensures { λ r. ⌜ GoesOn run command (now (area .entry)) (now (area .exit)) r ⌝ }

@@ -1,12 +1,10 @@
 -- `stream::follow` meets its contract. The loop's invariant: the bookkeeper, told the commands before the present place, has come as far as the run. Each command that is read
 -- moves the place by a byte or more, so that the measure, what is left of the stream, falls; where none is read the run is whole.
 use borrow.Author.Needs.{needs}
-use mathlib.Core.Path.{sym, ap, _∙_}
+use mathlib.Core.Path.{refl}
 use Prim.Native.Nat.{_+_, _-_, _≤_}
 use native.Mathlib.Omega.{arith}
 use lib.ListN.{length}
-use Rattle.reading.specs.declared.Reading.{Reading}
-use Rattle.reading.specs.Outcomes.{Outcome, readAs}
 use Rattle.stream.proofs.Runs.{Under, under-start, moves, under-more, under-end}
 use Rattle.stream.proofs.follow.Statement.{statement}
 use Rattle.stream.proofs.follow.Tie as tie
@@ -41,7 +39,7 @@ same-length c = c .before .before .before .before .loop .inv .long
 returns : tie.Need-returns Inv-loop μ-loop
 returns c =
     let l = c .before .before .before .before in
-    under-end (l .loop .inv) (sym (ap (λ (o : Outcome). o .command) (c .before .before .read .ensures)) ∙ ap (λ (g : Reading). readAs g .command) (c .enum-told .given .1))
+    under-end (l .loop .inv) (c .before .before .read .ensures) (c .enum-told .given .1) refl
 
 enum-known-reading : tie.Need-enum-known-reading Inv-loop μ-loop
 enum-known-reading c = search needs
@@ -87,7 +85,7 @@ returns-2 : tie.Need-returns-2 Inv-loop μ-loop
 returns-2 c =
     let r = c .before .before .before in
     let l = r .before .before .before .before in
-    under-end (l .loop .inv) (sym (ap (λ (o : Outcome). o .command) (r .before .before .read .ensures)) ∙ ap (λ (g : Reading). readAs g .command) (r .reading2 .given .1))
+    under-end (l .loop .inv) (r .before .before .read .ensures) (r .reading2 .given .1) refl
 
 pub follow-spec : {M : Type 1} → statement M
 follow-spec =

@@ -29,7 +29,9 @@ one : (c : tie.After-acceptances-of) → c .acceptances-of .result ≤ 1
 one c = rw (c .acceptances-of .ensures) (at-most-one (told (c .before .before .before .before .before .before .apply .result .reply)))
 
 add-t13 : tie.Need-add-t13
-add-t13 c = record { fits = omega (arith, (c .before .before .before .before .before .before .before .before .before .before .before .pre), one (c .before)) }
+add-t13 c =
+    let a = c .before .before .before .before .before .before .before in
+    record { fits = omega (arith, a .before .before .before .before .pre, one (c .before)) }
 
 same-length : tie.Need-same-length
 same-length c = search needs

@@ -3,7 +3,7 @@ use borrow.Author.Needs.{needs}
 use mathlib.Core.Path.{_≡_}
 use native.Mathlib.Omega.{arith}
 use lib.IntN.{pos, natAbs, _-ℤ_}
-use mir.Syntax.{w32, w64}
+use mir.Syntax.{w64}
 use mir.Val.{SFits}
 use mir.Facts.{toZ-ofZ, sfits-widen}
 use Rattle.stream.proofs.Signs.{negated, plain, size-small}

@@ -1,10 +1,10 @@
 -- `stream::text::put_number` meets its contract: the fewest digits that hold a number of 64 bits are its decimal digits, at most 20.
 use borrow.Author.Needs.{needs}
-use mathlib.Core.Path.{ap, _≡_, _∙_}
+use mathlib.Core.Path.{ap, _∙_}
 use mathlib.Core.List.{List, _++_}
 use Prim.Native.Nat.{ℕ, _≤_}
 use native.Mathlib.Omega.{arith}
-use lib.ListN.{length, length-take}
+use lib.ListN.{length-take}
 use Rattle.stream.specs.Writing.{written}
 use Rattle.stream.proofs.Decimals.{spelled, few}
 use Rattle.stream.proofs.text.put_number.Statement.{statement}
