@@ -3,8 +3,9 @@
 
 The paper is plain: every value is written down, and a minimum is looked for among all of them. Nothing here is taken from the engine.
 
-  python3 tools/commands.py tests/stream.txt > crates/stream/stdin
-  python3 tests/bookkeeper.py < crates/stream/stdin > crates/stream/stdout
+  python3 tests/bookkeeper.py < crates/stream/stdin | diff - crates/stream/stdout
+
+tests/stream.txt says how crates/stream/stdin is made.
 """
 import sys
 
