@@ -1,0 +1,113 @@
+-- `stream::follow` meets its contract. The loop's invariant: the bookkeeper, told the commands before the present place, has come as far as the run. Each command that is read
+-- moves the place by a byte or more, so that the measure, what is left of the stream, falls; where none is read the run is whole.
+use borrow.Author.Needs.{needs}
+use mathlib.Core.Path.{refl}
+use Prim.Native.Nat.{_+_, _-_, _≤_}
+use native.Mathlib.Omega.{arith}
+use lib.ListN.{length}
+use Rattle.stream.proofs.Runs.{Under, under-start, moves, under-more, under-end}
+use Rattle.stream.proofs.follow.Statement.{statement}
+use Rattle.stream.proofs.follow.Tie as tie
+
+abbrev Inv-loop : tie.InvT-loop
+Inv-loop bytes area₀ run₀ at₀ area run at = Under bytes area₀ (run₀ .session) area run at
+
+abbrev μ-loop : tie.MeasureT-loop
+μ-loop bytes area₀ run₀ at₀ area run at = length bytes - at
+
+loop-holds : tie.Need-loop-holds Inv-loop μ-loop
+loop-holds c = under-start (c .before .before .args .bytes .now) (c .before .before .args .area .now) (c .before .before .args .session)
+
+sub-read : tie.Need-sub-read Inv-loop μ-loop
+sub-read c = search needs
+
+part-read-start : tie.Need-part-read-start Inv-loop μ-loop
+part-read-start c = search needs
+
+part-read-end : tie.Need-part-read-end Inv-loop μ-loop
+part-read-end c = search needs
+
+read-requires : tie.Need-read-requires Inv-loop μ-loop
+read-requires c κs = search needs
+
+enum-told : tie.Need-enum-told Inv-loop μ-loop
+enum-told c = search needs
+
+same-length : tie.Need-same-length Inv-loop μ-loop
+same-length c = c .before .before .before .before .loop .inv .long
+
+returns : tie.Need-returns Inv-loop μ-loop
+returns c =
+    let l = c .before .before .before .before in
+    under-end (l .loop .inv) (c .before .before .read .ensures) (c .enum-told .given .1) refl
+
+enum-known-reading : tie.Need-enum-known-reading Inv-loop μ-loop
+enum-known-reading c = search needs
+
+-- the command that was read moves the place, and leaves it within the stream
+moved : (c : tie.After-reading Inv-loop μ-loop)
+    → let l = c .before .before .before .before in
+    (1 ≤ c .reading .given .0 .1 .0) × (l .loop .at + c .reading .given .0 .1 .0 ≤ length (l .before .before .before .args .bytes .now))
+moved c =
+    let l = c .before .before .before .before in
+    moves (l .before .before .before .args .bytes .now) (l .loop .at) (l .loop .inv .within) (c .before .before .read .ensures) (c .reading .given .1)
+
+step-requires : tie.Need-step-requires Inv-loop μ-loop
+step-requires c κs =
+    let l = c .before .before .before .before .before .before in
+    (l .loop .inv .few, omega (arith, l .loop .inv .read, moved (c .before .before), l .before .before .before .good .0 .0))
+
+add-at : tie.Need-add-at Inv-loop μ-loop
+add-at c = record { fits = omega (arith, moved (c .before .before .before .before .before)) }
+
+loop-less : tie.Need-loop-less Inv-loop μ-loop
+loop-less c = omega (arith, moved (c .before .before .before .before .before))
+
+loop-again : tie.Need-loop-again Inv-loop μ-loop
+loop-again c =
+    let r = c .before .before .before .before .before in
+    let l = r .before .before .before .before in
+    under-more (l .loop .inv) (r .before .before .read .ensures) (r .reading .given .1) (c .before .before .step .ensures)
+
+enum-known-reading-2 : tie.Need-enum-known-reading-2 Inv-loop μ-loop
+enum-known-reading-2 c = search needs
+
+stop-requires : tie.Need-stop-requires Inv-loop μ-loop
+stop-requires c κs = search needs
+
+show-requires : tie.Need-show-requires Inv-loop μ-loop
+show-requires c κs = search needs
+
+same-length-2 : tie.Need-same-length-2 Inv-loop μ-loop
+same-length-2 c = c .before .before .before .before .before .before .before .loop .inv .long
+
+returns-2 : tie.Need-returns-2 Inv-loop μ-loop
+returns-2 c =
+    let r = c .before .before .before in
+    let l = r .before .before .before .before in
+    under-end (l .loop .inv) (r .before .before .read .ensures) (r .reading2 .given .1) refl
+
+pub follow-spec : {M : Type 1} → statement M
+follow-spec =
+    tie.close
+    (tie.spec
+    Inv-loop
+    μ-loop
+    loop-holds
+    sub-read
+    part-read-start
+    part-read-end
+    read-requires
+    enum-told
+    same-length
+    returns
+    enum-known-reading
+    step-requires
+    add-at
+    loop-less
+    loop-again
+    enum-known-reading-2
+    stop-requires
+    show-requires
+    same-length-2
+    returns-2)

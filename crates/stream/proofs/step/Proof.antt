@@ -1,0 +1,63 @@
+-- `stream::step` meets its contract: `engine::apply` does as the bookkeeper does, and what is added to the counts is read off its reply.
+use borrow.Author.Needs.{needs}
+use mathlib.Core.Path.{refl, ap, _∙_}
+use Prim.Native.Nat.{ℕ, _+_, _≤_}
+use native.Mathlib.Omega.{arith}
+use Rattle.history.specs.Replies.{told}
+use Rattle.stream.specs.Following.{acceptances}
+use Rattle.stream.proofs.Runs.{at-most-one}
+use Rattle.stream.proofs.step.Statement.{statement}
+use Rattle.stream.proofs.step.Tie as tie
+
+add-read : tie.Need-add-read
+add-read c = search needs
+
+apply-requires : tie.Need-apply-requires
+apply-requires c κs = search needs
+
+answer-requires : tie.Need-answer-requires
+answer-requires c κs = search needs
+
+show-requires : tie.Need-show-requires
+show-requires c κs = search needs
+
+acceptances-of-requires : tie.Need-acceptances-of-requires
+acceptances-of-requires c κs = search needs
+
+-- one command is accepted at most once
+one : (c : tie.After-acceptances-of) → c .acceptances-of .result ≤ 1
+one c = rw (c .acceptances-of .ensures) (at-most-one (told (c .before .before .before .before .before .before .apply .result .reply)))
+
+add-t13 : tie.Need-add-t13
+add-t13 c =
+    let a = c .before .before .before .before .before .before .before in
+    record { fits = omega (arith, a .before .before .before .before .pre, one (c .before)) }
+
+same-length : tie.Need-same-length
+same-length c = search needs
+
+returns : tie.Need-returns
+returns c =
+    let a = c .before .before .before .before .before .before .before in
+    let s = a .before .before .before .before in
+    let d = a .apply .ensures in
+    record {
+      long = d .long;
+      read = refl;
+      few = omega (arith, s .pre, one (c .before));
+      accepted = λ h lent k. ap (λ (n : ℕ). s .args .run .accepted + n) (c .before .acceptances-of .ensures ∙ ap acceptances (d .tells h lent k));
+      represents = d .represents;
+    }
+
+pub step-spec : {M : Type 1} → statement M
+step-spec =
+    tie.close
+    (tie.spec
+    add-read
+    apply-requires
+    answer-requires
+    show-requires
+    acceptances-of-requires
+    add-t13
+    same-length
+    returns)
