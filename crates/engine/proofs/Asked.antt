@@ -18,7 +18,7 @@ use Rattle.history.specs.declared.Reply.the-variants.{Accepted, Lowest}
 use Rattle.history.specs.Minima.{standsAt, minimum}
 use Rattle.history.specs.Replies.{showing}
 use Rattle.history.specs.Refusals.{refusal}
-use Rattle.history.specs.Bookkeeper.{History, presentOf, sessionOf, among, without, isActive, closed}
+use Rattle.history.specs.Histories.{History, presentOf, sessionOf, among, without, isActive, closed}
 use Rattle.history.proofs.Order.{clash}
 use Rattle.layout.specs.declared.Held.{Held}
 use Rattle.layout.specs.Layout.{position}

@@ -17,7 +17,7 @@ use Rattle.history.specs.declared.Reply.the-variants.{Accepted}
 use Rattle.history.specs.Minima.{standsAt}
 use Rattle.history.specs.Replies.{numberOf}
 use Rattle.history.specs.Refusals.{markRefusal, refusal}
-use Rattle.history.specs.Bookkeeper.{History, presentOf, sessionOf, isActive, marked}
+use Rattle.history.specs.Histories.{History, presentOf, sessionOf, isActive, marked}
 use Rattle.history.proofs.Lowest.{minimum-new}
 use Rattle.layout.specs.Layout.{rows, capacity, height}
 use Rattle.table.specs.Marks.{Above}

@@ -7,7 +7,7 @@ use lib.ListN.{length, getD}
 use borrow.Author.Tests.{lt-ltb, le-ltb}
 use Rattle.history.specs.declared.Refusal.the-variants.{AreaTooShort}
 use Rattle.history.specs.declared.Reply.the-variants.{Accepted}
-use Rattle.history.specs.Bookkeeper.{limitOf, blank, sessionOf}
+use Rattle.history.specs.Histories.{limitOf, blank, sessionOf}
 use Rattle.layout.specs.Layout.{Room}
 use Rattle.table.specs.Calls.{Cleared}
 use Rattle.ranges.proofs.Upkeep.{cleared-holds}

@@ -6,7 +6,7 @@ use lib.ListN.{length}
 use Rattle.history.specs.declared.Session.{Session}
 use Rattle.history.specs.declared.Command.{Command}
 use Rattle.history.specs.Replies.{Told}
-use Rattle.history.specs.Bookkeeper.{History, step, opening}
+use Rattle.history.specs.Histories.{History, step, opening}
 use Rattle.history.specs.Examples.{Example, repliesOf, worked, AllWorked, examples}
 use Rattle.history.proofs.Worked.{examples-worked}
 use Rattle.engine.specs.Demand.{Call, AllAgree}

@@ -6,7 +6,7 @@ use borrow.Author.Tests.{eq-eqb, ne-eqb}
 use Rattle.history.specs.declared.Session.{Session}
 use Rattle.history.specs.declared.Command.{Command}
 use Rattle.history.specs.Refusals.{ownRefusal, refusal}
-use Rattle.history.specs.Bookkeeper.{History, accept, refuse, due, step}
+use Rattle.history.specs.Histories.{History, accept, refuse, due, step}
 
 module _ (s : Session) (n : ℕ) (b : Bool) (c : Command) where
   pub refusal-unopened : s .words ≡ 0 → refusal s n b c ≡ 4

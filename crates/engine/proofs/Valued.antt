@@ -14,7 +14,7 @@ use Rattle.history.specs.declared.Refusal.the-variants.{LastPosition}
 use Rattle.history.specs.declared.Reply.the-variants.{Accepted}
 use Rattle.history.specs.Minima.{standsAt, next}
 use Rattle.history.specs.Refusals.{refusal}
-use Rattle.history.specs.Bookkeeper.{History, sessionOf, isActive, valued}
+use Rattle.history.specs.Histories.{History, sessionOf, isActive, valued}
 use Rattle.history.proofs.Lowest.{lastOf-more}
 use Rattle.layout.specs.Layout.{capacity}
 use Rattle.stack.specs.Calls.{Lowered}

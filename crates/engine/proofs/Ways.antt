@@ -19,7 +19,7 @@ use Rattle.history.specs.declared.Reply.{Reply}
 use Rattle.history.specs.declared.Answer.{Answer}
 use Rattle.history.specs.Replies.{numbered, accepted, numberOf, told}
 use Rattle.history.specs.Refusals.{refusal}
-use Rattle.history.specs.Bookkeeper.{History, isActive, accept, refuse, due, step}
+use Rattle.history.specs.Histories.{History, isActive, accept, refuse, due, step}
 use Rattle.engine.specs.Promises.{AfterAcceptance, Possible}
 use Rattle.engine.specs.Keeping.{Keeps, Represents}
 use Rattle.engine.specs.Calls.{Does, refusedWith}

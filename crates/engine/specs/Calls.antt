@@ -11,7 +11,7 @@ use Rattle.history.specs.declared.Answer.{Answer}
 use Rattle.history.specs.declared.Refusal.{Refusal}
 use Rattle.history.specs.declared.Reply.the-variants.{Refused}
 use Rattle.history.specs.Replies.{told}
-use Rattle.history.specs.Bookkeeper.{History, among, step, opening}
+use Rattle.history.specs.Histories.{History, among, step, opening}
 use Rattle.layout.specs.declared.Held.{Held}
 use Rattle.table.specs.declared.Found.{Found}
 use Rattle.table.specs.declared.Found.the-variants.{At, Nothing}

@@ -16,7 +16,7 @@ use Rattle.history.specs.declared.Command.the-variants.{Mark, Query}
 use Rattle.history.specs.declared.Answer.{Answer}
 use Rattle.history.specs.Minima.{Least}
 use Rattle.history.specs.Replies.{told}
-use Rattle.history.specs.Bookkeeper.{History, blank, among, sessionOf, step, opening}
+use Rattle.history.specs.Histories.{History, blank, among, sessionOf, step, opening}
 use Rattle.engine.specs.Promises.{Settled}
 use Rattle.engine.specs.Keeping.{AsLent}
 

@@ -5,7 +5,7 @@ use Prim.Native.Nat.{ℕ, _+_, _*_, _<_, _≤_}
 use lib.ListN.{length, getD}
 use Rattle.history.specs.declared.Standing.the-variants.{Unmarked}
 use Rattle.history.specs.declared.Session.{Session}
-use Rattle.history.specs.Bookkeeper.{History, presentOf, sessionOf}
+use Rattle.history.specs.Histories.{History, presentOf, sessionOf}
 use Rattle.layout.specs.Layout.{capacity}
 use Rattle.table.specs.Marks.{Above}
 use Rattle.ranges.specs.Holding.{Holds}

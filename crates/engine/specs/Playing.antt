@@ -6,7 +6,7 @@ use lib.ListN.{length}
 use Rattle.history.specs.declared.Command.{Command}
 use Rattle.history.specs.declared.Answer.{Answer}
 use Rattle.history.specs.Replies.{Told, told}
-use Rattle.history.specs.Bookkeeper.{opening}
+use Rattle.history.specs.Histories.{opening}
 use Rattle.history.specs.Examples.{Example}
 use Rattle.engine.specs.Demand.{Call, OpeningSays, CallSays, Made}
 

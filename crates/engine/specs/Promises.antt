@@ -15,7 +15,7 @@ use Rattle.history.specs.declared.Command.the-variants.{Value, Mark, Query, Clo
 use Rattle.history.specs.Minima.{next}
 use Rattle.history.specs.Replies.{Told, numbered, accepted, showing}
 use Rattle.history.specs.Refusals.{refusal}
-use Rattle.history.specs.Bookkeeper.{closedAt}
+use Rattle.history.specs.Histories.{closedAt}
 
 -- "In each refusal the session comes back equal .. and the area is untouched; .. no value or place is shown."
 pub record AfterRefusal (n : ℕ) (s : Session) (before after : List ℕ) (t : Session) (a : Told) : Type 0 where

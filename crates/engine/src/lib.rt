@@ -6,7 +6,7 @@ ghost use lib.ListN.{length};
 ghost use Rattle.history.specs.declared.Command.the-variants.{Value, Mark, Query, Close};
 ghost use Rattle.history.specs.declared.Standing.the-variants.{Unmarked};
 ghost use Rattle.history.specs.Minima.{standsAt};
-ghost use Rattle.history.specs.Bookkeeper.{limitOf, closedAt};
+ghost use Rattle.history.specs.Histories.{limitOf, closedAt};
 ghost use Rattle.engine.specs.Calls.{Opens, Does, Sighted, refusedWith};
 use history::Answer;
 use history::Command;

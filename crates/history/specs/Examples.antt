@@ -8,7 +8,7 @@ use Rattle.history.specs.declared.Command.{Command}
 use Rattle.history.specs.declared.Command.the-variants.{Value, Mark, Query, Close}
 use Rattle.history.specs.Minima.{standsAt}
 use Rattle.history.specs.Replies.{Told, numbered, accepted, showing}
-use Rattle.history.specs.Bookkeeper.{History, step, opening}
+use Rattle.history.specs.Histories.{History, step, opening}
 
 -- an opening of so many words, what it is told, the limit K, the commands, each lent as many words, and what each is told
 pub record Example : Type 0 where

@@ -1,5 +1,5 @@
 pub mod Minima
 pub mod Replies
 pub mod Refusals
-pub mod Bookkeeper
+pub mod Histories
 pub mod Examples

@@ -1,6 +1,4 @@
 // What is printed of a call: its command, its reply and the session after it.
-ghost use mathlib.Core.Path.{_≡_};
-ghost use lib.IntN.{natAbs};
 use history::Command;
 use history::Position;
 use history::Reply;
@@ -16,22 +14,11 @@ pub fn number(n: u64) {
     io::print_decimal(STDOUT_FILENO, n);
 }
 
-// A value without its sign, the least one's too.
-fn magnitude(v: i32) -> u64
-    ensures { λ r. ⌜ r ≡ natAbs v ⌝ }
-{
-    if v < 0 {
-        (-(v as i64)) as u64
-    } else {
-        v as u64
-    }
-}
-
 fn signed(v: i32) {
     if v < 0 {
         text(b"-");
     }
-    number(magnitude(v));
+    number(words::magnitude(v));
 }
 
 fn position(i: Position) {

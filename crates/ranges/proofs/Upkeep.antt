@@ -8,7 +8,7 @@ use lib.ListN.{length, length-append}
 use Rattle.history.specs.declared.Position.{Position}
 use Rattle.history.specs.declared.Minimum.{Minimum}
 use Rattle.history.specs.Minima.{minimum, standsAt, next, presentAt}
-use Rattle.history.specs.Bookkeeper.{without}
+use Rattle.history.specs.Histories.{without}
 use Rattle.history.proofs.Lowest.{minimum-more, minimum-least}
 use Rattle.layout.specs.declared.Held.{Held}
 use Rattle.layout.specs.Layout.{rows, height, position, Room}

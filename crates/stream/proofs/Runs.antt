@@ -12,7 +12,7 @@ use Rattle.history.specs.declared.Command.{Command}
 use Rattle.history.specs.declared.Answer.{Answer}
 use Rattle.history.specs.declared.Session.{Session}
 use Rattle.history.specs.Replies.{Told}
-use Rattle.history.specs.Bookkeeper.{History, step, opening}
+use Rattle.history.specs.Histories.{History, step, opening}
 use Rattle.reading.specs.declared.Reading.{Reading}
 use Rattle.reading.specs.declared.Reading.the-variants.{Next}
 use Rattle.reading.specs.Outcomes.{Outcome, next, readAs, readingOf}
@@ -34,11 +34,11 @@ at-most-one t = go (eqb (t .number) 0)
 pub rest : (s : List ℕ) (at : ℕ) → take (length s - at) (drop at s) ≡ drop at s
 rest s at = take-all (length s - at) (drop at s) (simp length-drop (omega arith))
 
--- a bookkeeper with the paper h has come as far as the run, and the session and the words keep the paper
+-- a bookkeeper with the later h has come as far as the run, and the session and the words keep the later
 pub record Reached (h : History) (n : ℕ) (bytes lent words : List ℕ) (run : Run) (at : ℕ) : Type 0 where
-  pub paper : History
-  pub followed : Followed h n bytes at paper (run .read) (run .accepted)
-  pub represents : Represents paper lent (run .session) words
+  pub later : History
+  pub followed : Followed h n bytes at later (run .read) (run .accepted)
+  pub represents : Represents later lent (run .session) words
 
 -- a run from the session s and the words `before`, at a place of the stream
 pub record Under (bytes before : List ℕ) (s : Session) (words : List ℕ) (run : Run) (at : ℕ) : Type 0 where
@@ -55,7 +55,7 @@ under-start bytes before s = record {
   few = omega arith;
   read = omega arith;
   long = refl;
-  reached = λ h lent r. record { paper = h; followed = Followed.start; represents = r };
+  reached = λ h lent r. record { later = h; followed = Followed.start; represents = r };
 }
 
 -- a command that is read moves the place, and leaves it within the stream
@@ -70,9 +70,9 @@ reached-more : {h : History} {n : ℕ} {bytes lent words after : List ℕ} {run 
     → Reached h n bytes lent words run at → readingOf (drop at bytes) ≡ next command used → length words ≡ n → GoesOn run command words after r
     → Reached h n bytes lent after r (at + used)
 reached-more {n} {lent} {used} {command} p e l o = record {
-  paper = step (p .paper) n command .history;
-  followed = rw (o .read, o .accepted (p .paper) lent (p .represents), l) (Followed.more command used (p .followed) e);
-  represents = rw l at (o .represents (p .paper) lent (p .represents));
+  later = step (p .later) n command .history;
+  followed = rw (o .read, o .accepted (p .later) lent (p .represents), l) (Followed.more command used (p .followed) e);
+  represents = rw l at (o .represents (p .later) lent (p .represents));
 }
 
 -- one command more
@@ -98,7 +98,7 @@ under-end {bytes} {at} u e n z h lent k =
     let o = sym (e ∙ ap readingOf (rest bytes at)) ∙ ap readAs n in
     record {
       at = at;
-      paper = p .paper;
+      later = p .later;
       followed = p .followed;
       stops = ap (λ (x : Outcome). x .command) o ∙ z;
       session = p .represents .session;

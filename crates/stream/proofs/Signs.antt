@@ -1,32 +1,13 @@
--- The size of a signed value of 32 bits, and its text with or without a minus sign.
-use mathlib.Core.Path.{_≡_, refl, ap, subst}
+-- The text of a signed value, with or without a minus sign.
+use mathlib.Core.Path.{_≡_, refl, subst}
 use mathlib.Core.Bool.{true, false}
 use mathlib.Core.List.{_∷_}
-use Prim.Native.Nat.{suc, _≤_}
-use native.Mathlib.Nat.{zero-add}
 use native.Mathlib.Omega.{arith}
 use lib.Dec.{T}
-use lib.IntN.{ℤ, pos, negsuc, natAbs, _-ℤ_}
+use lib.IntN.{ℤ, pos, negsuc, natAbs}
 use lib.Signed.{ltZ}
 use borrow.Author.Tests.{ltb-true}
-use mir.Syntax.{w32}
-use mir.Val.{SFits}
 use Rattle.stream.specs.Writing.{decimalOf, signedText}
-
--- no size is over 2 ^ 31
-pub size-small : (v : ℤ) → SFits w32 v → natAbs v ≤ 2147483648
-size-small (pos n) f = omega (arith, f .sfits)
-size-small (negsuc n) f = omega (arith, f .sfits)
-
--- below zero, 0 less the value is its size
-pub negated : (v : ℤ) → ltZ v (pos 0) ≡ true → pos 0 -ℤ v ≡ pos (natAbs v)
-negated (pos n) e = absurd (omega (arith, ltb-true n 0 e))
-negated (negsuc n) e = ap pos (zero-add (suc n))
-
--- from zero on, the value is its size
-pub plain : (v : ℤ) → ltZ v (pos 0) ≡ false → v ≡ pos (natAbs v)
-plain (pos n) e = refl
-plain (negsuc n) e = absurd (subst T e tt)
 
 -- below zero, a minus sign and the size
 pub minus-text : (v : ℤ) → ltZ v (pos 0) ≡ true → signedText v ≡ 45 ∷ decimalOf (natAbs v)

@@ -7,7 +7,7 @@ ghost use mathlib.Core.Path.{_≡_};
 ghost use Prim.Native.Nat.{_+_, _<_, _≤_};
 ghost use lib.ListN.{length};
 ghost use Rattle.history.specs.Replies.{told};
-ghost use Rattle.history.specs.Bookkeeper.{opening};
+ghost use Rattle.history.specs.Histories.{opening};
 ghost use Rattle.stream.specs.Following.{acceptances, GoesOn, Ran, RanFrom};
 use history::Command;
 use history::Reply;

@@ -3,7 +3,6 @@ ghost use mathlib.Core.Path.{_≡_};
 ghost use mathlib.Core.List.{[]};
 ghost use Prim.Native.Nat.{_+_, _≤_};
 ghost use lib.ListN.{length};
-ghost use lib.IntN.{natAbs};
 ghost use Rattle.stream.specs.Writing.{Adds, written, decimalOf, signedText};
 
 // The first `used` bytes of `text` are written.
@@ -47,23 +46,12 @@ pub fn put_number(line: Line, n: u64) -> Line
     put(line, &digits[..k])
 }
 
-// The size of a value. That of the least value fits no i32.
-fn magnitude(v: i32) -> u64
-    ensures { λ r. ⌜ r ≡ natAbs v ⌝ }
-{
-    if v < 0 {
-        (-(v as i64)) as u64
-    } else {
-        v as u64
-    }
-}
-
 pub fn put_signed(line: Line, v: i32) -> Line
     requires { ⌜ line .used + 21 ≤ 128 ⌝ }
     ensures { λ r. ⌜ Adds line (signedText v) 21 r ⌝ }
 {
     if v < 0 {
-        return put_number(put(line, b"-"), magnitude(v));
+        return put_number(put(line, b"-"), words::magnitude(v));
     }
-    put_number(line, magnitude(v))
+    put_number(line, words::magnitude(v))
 }

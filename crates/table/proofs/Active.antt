@@ -10,7 +10,7 @@ use lib.Dec.{eqb}
 use lib.ListN.{length, length-append}
 use borrow.Author.Tests.{eq-eqb, ne-eqb, eqb-false}
 use Rattle.history.specs.declared.Position.{Position}
-use Rattle.history.specs.Bookkeeper.{among}
+use Rattle.history.specs.Histories.{among}
 use Rattle.layout.specs.declared.Held.{Held}
 use Rattle.layout.specs.Layout.{rows, position, flag}
 use Rattle.table.specs.declared.Found.{Found}

@@ -9,7 +9,7 @@ use lib.Dec.{eqb}
 use lib.ListN.{length}
 use borrow.Author.Tests.{eq-eqb, ne-eqb, eqb-true}
 use Rattle.history.specs.declared.Position.{Position}
-use Rattle.history.specs.Bookkeeper.{among, without}
+use Rattle.history.specs.Histories.{among, without}
 
 -- a test that cannot hold fails
 pub refuted : (t : Bool) → (t ≡ true → ⊥) → t ≡ false

@@ -8,7 +8,7 @@ use lib.ListN.{length, getD, set, length-set, length-append}
 use lib.Seq.{getD-set-same, getD-set-other}
 use borrow.Author.Tests.{eq-eqb, ne-eqb}
 use Rattle.history.specs.declared.Position.{Position}
-use Rattle.history.specs.Bookkeeper.{without}
+use Rattle.history.specs.Histories.{without}
 use Rattle.layout.specs.declared.Held.{Held}
 use Rattle.layout.specs.Layout.{rows, position, flag, Fits}
 use Rattle.table.specs.Marks.{Linked, activeBelow, activeIn, Live}

@@ -4,7 +4,7 @@ use mathlib.Core.List.{List, [], _∷_, _++_}
 use Prim.Native.Nat.{ℕ, _+_, _*_, _<_, _≤_}
 use lib.ListN.{length, getD}
 use Rattle.history.specs.declared.Position.{Position}
-use Rattle.history.specs.Bookkeeper.{without}
+use Rattle.history.specs.Histories.{without}
 use Rattle.layout.specs.declared.Held.{Held}
 use Rattle.layout.specs.Layout.{rows, capacity, height, position, head, Room}
 use Rattle.table.specs.declared.Found.{Found}

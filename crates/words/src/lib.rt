@@ -1,5 +1,6 @@
-// A signed 32-bit value as a word of the area: offset by 2 ^ 31, so that every value, both ends with it, has a word of its own.
+// A signed 32-bit value in other forms. As a word of the area it is offset by 2 ^ 31, so that every value, both ends with it, has a word of its own.
 ghost use mathlib.Core.Path.{_≡_};
+ghost use lib.IntN.{natAbs};
 ghost use Rattle.words.specs.Word.{wordOf, valueOf};
 
 pub fn to_word(v: i32) -> u64
@@ -13,4 +14,15 @@ pub fn from_word(w: u64) -> i32
     ensures { λ r. ⌜ r ≡ valueOf w ⌝ }
 {
     ((w % 4294967296) as i64 - 2147483648) as i32
+}
+
+// The size of a value. That of the least value fits no i32.
+pub fn magnitude(v: i32) -> u64
+    ensures { λ r. ⌜ r ≡ natAbs v ⌝ }
+{
+    if v < 0 {
+        (-(v as i64)) as u64
+    } else {
+        v as u64
+    }
 }

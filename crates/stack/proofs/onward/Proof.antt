@@ -1,5 +1,5 @@
 -- `stack::onward` meets its contract: the quotient is 1 where the run starts at the row or below it, and else 0.
-use mathlib.Core.Path.{_≡_, ap, _∙_}
+use mathlib.Core.Path.{ap, _∙_}
 use Prim.Native.Nat.{ℕ, _+_, _-_, _*_, _/_, _≤_}
 use native.Mathlib.Nat.{mul-one, mul-zero, mul-le-mul-left}
 use native.Mathlib.Omega.{arith}

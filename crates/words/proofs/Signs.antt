@@ -1,4 +1,4 @@
--- A value without its sign.
+-- The size of a signed value of 32 bits.
 use mathlib.Core.Path.{_≡_, refl, ap, subst}
 use mathlib.Core.Bool.{true, false}
 use Prim.Native.Nat.{suc, _≤_}
@@ -11,17 +11,17 @@ use borrow.Author.Tests.{ltb-true}
 use mir.Syntax.{w32}
 use mir.Val.{SFits}
 
--- without its sign a value of 32 bits is at most 2 ^ 31
-pub magnitude-small : (v : ℤ) → SFits w32 v → natAbs v ≤ 2147483648
-magnitude-small (pos n) f = omega (arith, f .sfits)
-magnitude-small (negsuc n) f = omega (arith, f .sfits)
+-- no size is over 2 ^ 31
+pub size-small : (v : ℤ) → SFits w32 v → natAbs v ≤ 2147483648
+size-small (pos n) f = omega (arith, f .sfits)
+size-small (negsuc n) f = omega (arith, f .sfits)
 
--- a value below 0 loses its sign when it is negated
+-- below zero, 0 less the value is its size
 pub negated : (v : ℤ) → ltZ v (pos 0) ≡ true → pos 0 -ℤ v ≡ pos (natAbs v)
 negated (pos n) e = absurd (omega (arith, ltb-true n 0 e))
 negated (negsuc n) e = ap pos (zero-add (suc n))
 
--- any other has none
+-- from zero on, the value is its size
 pub plain : (v : ℤ) → ltZ v (pos 0) ≡ false → v ≡ pos (natAbs v)
 plain (pos n) e = refl
 plain (negsuc n) e = absurd (subst T e tt)

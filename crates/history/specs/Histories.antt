@@ -1,4 +1,4 @@
--- Document 01, "The bookkeeper of demand 3". Told lengths and commands, and nothing of the engine's.
+-- Histories of commands: document 01, "The bookkeeper of demand 3", who is told lengths and commands, and nothing of the engine's.
 use mathlib.Core.Bool.{Bool, false, cond, _||_}
 use mathlib.Core.List.{List, [], _∷_, _++_}
 use Prim.Native.Nat.{ℕ, _+_, _-_, _/_, min, max}
@@ -16,6 +16,7 @@ use Rattle.history.specs.Replies.{Told, numbered, accepted, showing}
 use Rattle.history.specs.Refusals.{refusal}
 
 -- "On the paper stand N, K, the values in order, the active taps, the standing and l."
+-- `words` is N, `limit` is K, and `peak` is l; the values stand in the order of their positions, the active marks in ascending order
 pub record History : Type 0 where
   pub words : ℕ
   pub limit : ℕ
