@@ -61,15 +61,15 @@ pub record Rebuilding (w v : List ℕ) (values : List ℤ) (c h : ℕ) (run : Ru
   pub topped : height v ≡ run .next .0 → (t : Place) → t .0 + 1 ≡ height v → leastAt v t ≡ run .low .place .0
   -- the run is the one that ends at row h or has it
   pub known : run .next .0 ≤ height w
-  pub ends : run .end ≡ startOf w (run .next) (rows w) (height w)
+  pub ends : run .end .0 ≡ startOf w (run .next) (rows w) (height w)
   pub minimum-known : (t : Place) → t .0 + 1 ≡ run .next .0 → run .low ≡ standsAt (least w t) (record { 0 = leastAt w t % 4294967296 })
   pub started : (t : Place) → t .0 + 1 ≡ run .next .0 → first w t ≤ h
-  pub ahead : h ≤ run .end
+  pub ahead : h ≤ run .end .0
   pub beyond : (i : ℕ) → 16 + 8 * roomFor c ≤ i → getD v i 0 ≡ getD w i 0
 
 module _ (w : List ℕ) (values : List ℤ) (marks : List Position) (c : ℕ) (k : Holds w values marks) (e : length marks ≡ c) (r : Room w (roomFor c)) where
   -- the emptied table, before the first row
-  pub rebuild-none : (v : List ℕ) (run : Run) → Cleared w v (roomFor c) → run .next .0 ≡ 0 → run .end ≡ 0 → Rebuilding w v values c 0 run
+  pub rebuild-none : (v : List ℕ) (run : Run) → Cleared w v (roomFor c) → run .next .0 ≡ 0 → run .end .0 ≡ 0 → Rebuilding w v values c 0 run
   rebuild-none v run q n o = record {
     long = q .long;
     holds = more-values (cleared-holds w v (roomFor c) q r);
@@ -117,34 +117,34 @@ module _ (w : List ℕ) (values : List ℤ) (marks : List Position) (c : ℕ) (k
 
   module _ {v : List ℕ} {h : ℕ} {run : Run} (i : Rebuilding w v values c h run) (l : h < rows w) where
     -- THE RUN OF ROW h IS READ
-    pub rebuild-run : {s : Run} → Advanced v h (rows w) (height w) run s → Rebuilding w v values c h s × (h < s .end)
-    rebuild-run {s} a = elim (decLt h (run .end)) [
+    pub rebuild-run : {s : Run} → Advanced v (record { 0 = h }) (rows w) (height w) run s → Rebuilding w v values c h s × (h < s .end .0)
+    rebuild-run {s} a = elim (decLt h (run .end .0)) [
       | yes m ↦ rw (a .stays m) (i, m)
       | no m ↦ rw (a .moves (omega (arith, m)) (more (omega (arith, m)))) (moved (omega (arith, m)) (more (omega (arith, m))))
     ]
       where
         -- a run that ends at row h is not the last
-        more : run .end ≤ h → run .next .0 < height w
+        more : run .end .0 ≤ h → run .next .0 < height w
         more m = elim (decLt (run .next .0) (height w)) [
           | yes n ↦ n
           | no n ↦ absurd (omega (arith, i .ends ∙ ap (λ (b : Bool). cond b (first w (run .next)) (rows w)) (le-ltb (run .next .0) (height w) (omega (arith, n)))))
         ]
 
         -- the next one starts there
-        starts : run .next .0 < height w → run .end ≡ first w (run .next)
+        starts : run .next .0 < height w → run .end .0 ≡ first w (run .next)
         starts n = i .ends ∙ ap (λ (b : Bool). cond b (first w (run .next)) (rows w)) (lt-ltb (run .next .0) (height w) n)
 
         same-start : (t : Place) → run .next .0 ≤ t .0 → startOf v t (rows w) (height w) ≡ startOf w t (rows w) (height w)
         same-start t n = ap (λ (x : ℕ). cond (ltb (t .0) (height w)) x (rows w)) (i .runs-left t n .2)
 
-        after-start : run .next .0 < height w → run .end ≤ h → h < startOf w (above (run .next)) (rows w) (height w)
+        after-start : run .next .0 < height w → run .end .0 ≤ h → h < startOf w (above (run .next)) (rows w) (height w)
         after-start n m = elim (decLt (run .next .0 + 1) (height w)) [
           | yes o ↦ rw (lt-ltb (run .next .0 + 1) (height w) o) (omega (arith, starts n, k .stacked .rising (run .next) o, i .ahead))
           | no o ↦ rw (le-ltb (run .next .0 + 1) (height w) (omega (arith, o))) l
         ]
 
-        moved : run .end ≤ h → run .next .0 < height w
-            → Rebuilding w v values c h (runAt v (run .next) (rows w) (height w)) × (h < runAt v (run .next) (rows w) (height w) .end)
+        moved : run .end .0 ≤ h → run .next .0 < height w
+            → Rebuilding w v values c h (runAt v (run .next) (rows w) (height w)) × (h < runAt v (run .next) (rows w) (height w) .end .0)
         moved m n =
             let b = same-start (above (run .next)) (omega arith) in
             let f = i .runs-left (run .next) (omega arith) in
@@ -179,7 +179,7 @@ module _ (w : List ℕ) (values : List ℤ) (marks : List Position) (c : ℕ) (k
             read t q = let f = i .runs-left (run .next) (omega arith) in rw (f .0, f .1, q)
 
     -- the row's mark, its run read
-    module _ (o : h < run .end) where
+    module _ (o : h < run .end .0) where
       abbrev row : Held
       row = record { 0 = h }
 
@@ -191,7 +191,7 @@ module _ (w : List ℕ) (values : List ℤ) (marks : List Position) (c : ℕ) (k
       ]
         where
           -- before the first, the end is row 0
-          first-run : run .next .0 ≡ 0 → run .end ≡ 0
+          first-run : run .next .0 ≡ 0 → run .end .0 ≡ 0
           first-run n =
               let z : 0 < height w = k .stacked .some (omega arith) in
               i .ends
@@ -213,7 +213,7 @@ module _ (w : List ℕ) (values : List ℤ) (marks : List Position) (c : ℕ) (k
           next-place : run .next .0 - 1 + 1 ≡ run .next .0
           next-place = omega (arith, some-run)
 
-          ending : run .next .0 - 1 + 1 < height w → run .end ≡ first w (run .next)
+          ending : run .next .0 - 1 + 1 < height w → run .end .0 ≡ first w (run .next)
           ending n = i .ends ∙ ap (λ (b : Bool). cond b (first w (run .next)) (rows w)) (lt-ltb (run .next .0) (height w) (omega (arith, some-run)))
 
       -- so its minimum is the row's
@@ -360,11 +360,11 @@ Underway empty c count top v run h =
     (w : List ℕ) (values : List ℤ) (marks : List Position) → Cleared w empty (roomFor c) → Holds w values marks → length marks ≡ c → Room w (roomFor c)
     → count ≡ rows w → top ≡ height w → Rebuilding w v values c h run
 
-pub underway-none : (empty : List ℕ) (c count top : ℕ) (run : Run) → run .next .0 ≡ 0 → run .end ≡ 0 → Underway empty c count top empty run 0
+pub underway-none : (empty : List ℕ) (c count top : ℕ) (run : Run) → run .next .0 ≡ 0 → run .end .0 ≡ 0 → Underway empty c count top empty run 0
 underway-none empty c count top run n o w values marks q k e r _ _ = rebuild-none w values marks c k e r empty run q n o
 
 pub underway-more : {empty : List ℕ} {c count top : ℕ} {v x : List ℕ} {run s : Run} {h : ℕ} → Underway empty c count top v run h → h < count
-    → Advanced v h count top run s → Carried v x (record { 0 = h }) (s .low) → Underway empty c count top x s (h + 1)
+    → Advanced v (record { 0 = h }) count top run s → Carried v x (record { 0 = h }) (s .low) → Underway empty c count top x s (h + 1)
 underway-more {c = c} {v = v} {x} {s = s} {h} u l a b w values marks q k e r m n =
     let here : h < rows w = omega arith in
     let run-read = rebuild-run w values marks c k e r (u w values marks q k e r m n) here (rw (m, n) at a) in

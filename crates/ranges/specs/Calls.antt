@@ -47,14 +47,14 @@ startOf w t count top = cond (ltb (t .0) top) (first w t) count
 abbrev pub runAt : List ℕ → Place → ℕ → ℕ → Run
 runAt w t count top = record {
   next = above t;
-  end = startOf w (above t) count top;
+  end = record { 0 = startOf w (above t) count top };
   low = standsAt (least w t) (record { 0 = leastAt w t % 4294967296 });
 }
 
 -- the run that has row h, from the one that has the row before it
-pub record Advanced (w : List ℕ) (h count top : ℕ) (run r : Run) : Type 0 where
-  pub stays : h < run .end → r ≡ run
-  pub moves : run .end ≤ h → run .next .0 < top → r ≡ runAt w (run .next) count top
+pub record Advanced (w : List ℕ) (h : Held) (count top : ℕ) (run r : Run) : Type 0 where
+  pub stays : h .0 < run .end .0 → r ≡ run
+  pub moves : run .end .0 ≤ h .0 → run .next .0 < top → r ≡ runAt w (run .next) count top
 
 -- row h is appended to the rows that stay, if its mark is active
 pub record Carried (w v : List ℕ) (h : Held) (low : Minimum) : Type 0 where

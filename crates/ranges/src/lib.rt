@@ -11,7 +11,7 @@ use layout::Place;
 // A run of rows that share a stack entry, as a rebuild comes by it: the place after it, the row after its last, and its minimum.
 pub struct Run {
     pub next: Place,
-    pub end: usize,
+    pub end: Held,
     pub low: Minimum,
 }
 
@@ -28,12 +28,12 @@ pub fn append(area: &mut [u64], p: Position, m: Minimum)
 }
 
 // The run that has row h, from the one that has the row before it.
-fn advance(area: &[u64], run: Run, h: usize, count: usize, top: usize) -> Run
+fn advance(area: &[u64], run: Run, held: Held, count: usize, top: usize) -> Run
     requires { ⌜ (top ≤ count) × (count ≤ 16446) × (16 + 8 * count ≤ length (now area)) ⌝ }
-    ensures { λ r. ⌜ Advanced (now (area .entry)) h count top run r ⌝ }
+    ensures { λ r. ⌜ Advanced (now (area .entry)) held count top run r ⌝ }
 {
     let end = run.end;
-    if h < end {
+    if held.0 < end.0 {
         return run;
     }
     let next = run.next;
@@ -50,13 +50,13 @@ fn advance(area: &[u64], run: Run, h: usize, count: usize, top: usize) -> Run
     if t + 1 < top {
         return Run {
             next: Place(t + 1),
-            end: area[16 + 8 * (t + 1) + 5] as usize,
+            end: Held(area[16 + 8 * (t + 1) + 5] as usize),
             low,
         };
     }
     Run {
         next: Place(t + 1),
-        end: count,
+        end: Held(count),
         low,
     }
 }
@@ -75,7 +75,7 @@ fn carry(area: &mut [u64], held: Held, low: Minimum)
 
 // Source document 000, section 3.2: the active marks are transferred, in order, to an emptied table with room for more.
 // It lies in the same words: a row is written at or below the row that is read.
-pub fn rebuild(area: &mut [u64], active: usize)
+fn rebuild(area: &mut [u64], active: usize)
     ensures { λ r. ⌜ Rebuilt (now (area .entry)) (now (area .exit)) active ⌝ }
 {
     if 4096 < active {
@@ -87,7 +87,7 @@ pub fn rebuild(area: &mut [u64], active: usize)
     table::clear(area, 4 * active + 62);
     let mut run = Run {
         next: Place(0),
-        end: 0,
+        end: Held(0),
         low: Minimum {
             value: 0,
             place: Position(0),
@@ -95,7 +95,7 @@ pub fn rebuild(area: &mut [u64], active: usize)
     };
     let mut h = 0;
     while h < count {
-        run = advance(area, run, h, count, top);
+        run = advance(area, run, Held(h), count, top);
         carry(area, Held(h), run.low);
         h += 1;
     }

@@ -16,7 +16,7 @@ pub enum Low {
 }
 
 // Whether a later value takes over from the least before it: the choice among equal values, and the one comparison of values.
-pub fn takes_over(later: i32, least: i32) -> bool
+fn takes_over(later: i32, least: i32) -> bool
     ensures { λ r. ⌜ r ≡ takesOver later least ⌝ }
 {
     later <= least
@@ -102,7 +102,7 @@ fn onward(half: usize, first: usize, h: usize) -> usize
 }
 
 // The place whose run has a row: a predecessor search over the runs' first rows (source document 000, Theorem 3).
-pub fn covering(area: &[u64], held: Held) -> Place
+fn covering(area: &[u64], held: Held) -> Place
     ensures { λ r. ⌜ Sought (now (area .entry)) held r ⌝ }
 {
     let h = held.0 % 65536;

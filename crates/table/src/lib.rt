@@ -13,11 +13,11 @@ pub enum Found {
 }
 
 // The hash bucket of a position among c. Positions come at regular distances when a player plays in time; the multiplication spreads them.
-fn bucket(p: u32, c: usize) -> usize
+fn bucket(p: Position, c: usize) -> usize
     requires { ⌜ (0 < c) × (c ≤ 16446) ⌝ }
-    ensures { λ r. ⌜ (r < c) × (r ≡ bucketOf p c) ⌝ }
+    ensures { λ r. ⌜ (r < c) × (r ≡ bucketOf (p .0) c) ⌝ }
 {
-    let x = (p as usize) * 2654435769 % 4294967296;
+    let x = (p.0 as usize) * 2654435769 % 4294967296;
     x * c / 4294967296
 }
 
@@ -31,7 +31,7 @@ pub fn find(area: &[u64], p: Position) -> Found
     if c == 0 {
         return Found::Nothing;
     }
-    let b = bucket(sought, c);
+    let b = bucket(p, c);
     let mut top = head.rows;
     let mut k = area[16 + 8 * b + 6] as usize;
     while 0 < k {
@@ -59,7 +59,7 @@ pub fn insert(area: &mut [u64], p: Position)
     let c = head.capacity;
     let m = head.rows;
     if m < c {
-        let b = bucket(p.0, c);
+        let b = bucket(p, c);
         let from = 16 + 8 * b + 6;
         let at = 16 + 8 * m;
         let older = area[from];

@@ -6,14 +6,17 @@ use Rattle.table.proofs.Scaled.{scaled}
 use Rattle.table.proofs.bucket.Statement.{statement}
 use Rattle.table.proofs.bucket.Tie as tie
 
+cast-x : tie.Need-cast-x
+cast-x c = search needs
+
 mul-x : tie.Need-mul-x
 mul-x c = search needs
 
 mul-result : tie.Need-mul-result
-mul-result c = omega (arith, scaled (c .args .p * 2654435769) (c .args .c) (c .pre .0))
+mul-result c = omega (arith, scaled (c .before .args .p .0 * 2654435769) (c .before .args .c) (c .before .pre .0))
 
 returns : tie.Need-returns
-returns c = omega (arith, scaled (c .args .p * 2654435769) (c .args .c) (c .pre .0))
+returns c = omega (arith, scaled (c .before .args .p .0 * 2654435769) (c .before .args .c) (c .before .pre .0))
 
 pub bucket-spec : {M : Type 1} → statement M
-bucket-spec = tie.close (tie.spec mul-x mul-result returns)
+bucket-spec = tie.close (tie.spec cast-x mul-x mul-result returns)
