@@ -1,7 +1,7 @@
 #!/usr/bin/env python3
 """What the stream program prints for the command bytes on standard input, worked out by brute force from document 01 alone.
 
-The paper is plain: every value is written down, and a minimum is looked for among all of them. Nothing here is taken from the engine.
+The history is plain: every value is written down, and a minimum is looked for among all of them. Nothing here is taken from the engine.
 
   python3 tests/bookkeeper.py < crates/stream/stdin | diff - crates/stream/stdout
 
@@ -17,8 +17,8 @@ LETTERS = {1: 'V', 2: 'M', 3: 'Q', 4: 'C'}
 ARGUMENT_BYTES = {'V': 4, 'M': 0, 'Q': 4, 'C': 4}
 
 
-class Paper:
-    """The bookkeeper's paper after an opening that is accepted."""
+class History:
+    """The history that document 01's bookkeeper keeps, after an opening that is accepted."""
 
     def __init__(self, words):
         self.limit = min((words - 512) // 64, 4096)
@@ -76,21 +76,21 @@ def read(rest):
 def lines(stream):
     """The program's lines for a stream of bytes."""
     stream = stream[:BYTES_READ]
-    paper = Paper(WORDS)
+    history = History(WORDS)
     count = accepted = at = 0
-    yield f'taps {paper.limit}'
+    yield f'taps {history.limit}'
     while at < len(stream):
         found = read(stream[at:])
         if isinstance(found, int):
             yield f'stop {at} {found}'
             break
         letter, argument, length = found
-        reply = paper.tell(letter, argument)
+        reply = history.tell(letter, argument)
         at += length
         count += 1
         accepted += reply[0] == 0
         yield ' '.join(map(str, [count, letter, *reply]))
-    yield f'end {count} {accepted} {len(paper.marks)}'
+    yield f'end {count} {accepted} {len(history.marks)}'
 
 
 if __name__ == '__main__':

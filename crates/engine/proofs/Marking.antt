@@ -23,8 +23,8 @@ use Rattle.layout.specs.Layout.{rows, capacity, height}
 use Rattle.table.specs.Marks.{Above}
 use Rattle.ranges.specs.Holding.{Holds}
 use Rattle.ranges.specs.Calls.{Added, Appended, Compacted, Spared}
-use Rattle.engine.specs.Promises.{sessionAfter}
-use Rattle.engine.specs.Keeping.{Keeps, AsLent}
+use Rattle.engine.specs.Promises.{AsLent, sessionAfter}
+use Rattle.engine.specs.Keeping.{Keeps}
 use Rattle.engine.specs.Calls.{Does, refusedWith}
 use Rattle.engine.proofs.Steps.{refusal-own}
 use Rattle.engine.proofs.Ways.{does-due, does-full, does-accepted, own-of}

@@ -19,14 +19,14 @@ use Rattle.history.specs.declared.Command.{Command}
 use Rattle.history.specs.declared.Command.the-variants.{Value, Mark, Query, Close}
 use Rattle.history.specs.declared.Answer.{Answer}
 use Rattle.history.specs.Minima.{minimum, Least}
-use Rattle.history.specs.Replies.{Told, numbered, accepted, told}
+use Rattle.history.specs.Replies.{Told, numbered, accepted, showing, told}
 use Rattle.history.specs.Refusals.{markRefusal, refusal}
 use Rattle.history.specs.Histories.{History, Stepped, sessionOf, limitOf, blank, opening, among, isActive, accept, refuse, due, step}
 use Rattle.history.proofs.Order.{clash}
 use Rattle.history.proofs.Lowest.{minimum-least}
 use Rattle.table.proofs.Active.{among-live}
-use Rattle.engine.specs.Promises.{AfterRefusal, AfterAcceptance, shows, Settled}
-use Rattle.engine.specs.Keeping.{AsLent, Keeps, Represents}
+use Rattle.engine.specs.Promises.{AsLent, AfterRefusal, AfterAcceptance, shows, Settled}
+use Rattle.engine.specs.Keeping.{Keeps, Represents}
 use Rattle.engine.specs.Calls.{Opens, Does}
 use Rattle.engine.specs.Demand.{Call, OpeningSays, CallSays, isOwn, Made, Agrees, AllAgree, Demand3, Demand1}
 use Rattle.engine.proofs.Steps.{refusal-unopened, refusal-other, refusal-own, step-refused, step-accepted}
@@ -142,6 +142,19 @@ module _ (n : ℕ) (first words : List ℕ) (h : History) (s : Session) (c : Cal
       let u = shown-minimum h (length (c .lent)) j m q in
       (u .2, rw (u .3) (active-least h first (c .lent) j (r .own (u .0) (u .1)) (u .2)))
 
+  -- a query on an active mark
+  gets : Represents h first s (c .lent) → (j : Position) → c .command ≡ Query j → isOwn n (c .lent) ≡ true → among j (h .active) ≡ true
+      → (m : Minimum) × (told (c .answer .reply) ≡ showing m) × Least (h .values) j m
+  gets r j e o a =
+      let z : h .words ≡ 0 → ⊥ = λ x. own-length n (c .lent) o .0 (sym (i .opened) ∙ x) in
+      let l : length (c .lent) ≡ h .words = own-length n (c .lent) o .1 ∙ sym (i .opened) in
+      let q : due h (length (c .lent)) (Query j) ≡ 0 =
+      refusal-own (sessionOf h) (length (c .lent)) (isActive h (Query j)) (Query j) z l ∙ ap (λ (b : Bool). cond b 0 11) a in (
+        minimum (h .values) j,
+        d .tells h first r ∙ ap (λ (x : Command). step h (length (c .lent)) x .tells) e ∙ ap (λ (x : Stepped). x .tells) (step-accepted h (length (c .lent)) (Query j) q),
+        active-least h first (c .lent) j (r .own z l) a,
+      )
+
   agrees : (now : List ℕ) → Represents h first s (c .lent) → AsLent (later .peak) first now → (isOwn n (c .lent) ≡ false → c .left ≡ c .lent)
       → Agrees n first now h later c
   agrees now r rest elsewhere = record {
@@ -151,7 +164,8 @@ module _ (n : ℕ) (first words : List ℕ) (h : History) (s : Session) (c : Cal
     long = d .long;
     elsewhere = elsewhere;
     full = λ e z o u. rw (d .tells h first r, e) (full-when h (length (c .lent)) z o u);
-    least = least r;
+    gets = gets r;
+    shown = least r;
   }
 
   -- the opening's words
@@ -185,8 +199,8 @@ module _ (n : ℕ) (first words : List ℕ) (h : History) (s : Session) (c : Cal
     refused-with : (k : ℕ) → (k ≡ 0 → ⊥) → ((b : Bool) → refusal s (length (c .lent)) b (c .command) ≡ k)
         → (later ≡ h) × (c .answer .session ≡ s) × (c .left ≡ c .lent)
     refused-with k z f =
-        let b = d .settled .isActive in
-        let r = d .settled .refused (λ e. z (sym (f b) ∙ e)) in
+        let b = d .settled .taken in
+        let r = d .settled .refuses (λ e. z (sym (f b) ∙ e)) in
         let q : due h (length (c .lent)) (c .command) ≡ k =
         ap (λ (x : Session). refusal x (length (c .lent)) (isActive h (c .command)) (c .command)) (sym (i .session)) ∙ f (isActive h (c .command)) in
         (ap (λ (x : Stepped). x .history) (step-refused h (length (c .lent)) (c .command) k q z), r .session, r .words)
@@ -214,12 +228,12 @@ module _ (n : ℕ) (first words : List ℕ) (h : History) (s : Session) (c : Cal
 -- a command whose number is not 0 is refused, and alters nothing
 settled-refused : (c : Command) (s : Session) (before after : List ℕ) (t : Session) (a : Told) → Settled c s before after t a → (a .number ≡ 0 → ⊥)
     → (after ≡ before) × (t ≡ s)
-settled-refused c s before after t a q z = elim (ℕ-discrete (refusal s (length before) (q .isActive) c) 0) [
+settled-refused c s before after t a q z = elim (ℕ-discrete (refusal s (length before) (q .taken) c) 0) [
   | yes e ↦ ⊎-elim
       (λ (x : AfterAcceptance c s before after t a). absurd (z (ap (λ (y : Told). y .number) (x .tells) ∙ shows-none c (x .found))))
       (λ (x : (c ≡ Mark) × AfterRefusal 10 s before after t a). (x .1 .words, x .1 .session))
-      (q .accepted e)
-  | no e ↦ let x = q .refused e in (x .words, x .session)
+      (q .accepts e)
+  | no e ↦ let x = q .refuses e in (x .words, x .session)
 ]
   where
     shows-none : (c : Command) (m : Minimum) → shows c m .number ≡ 0
@@ -253,10 +267,10 @@ module _ (opened : OpeningSays) (did : CallSays) (opens : (first left : List ℕ
 
   pub demand-1 : Demand1 opened did
   demand-1 = record {
-    opening = λ first left o q z.
+    refusedOpening = λ first left o q z.
         let p = opens first left o q in
         let l = opening-refused (length first) (λ e. z (ap (λ (x : Told). x .number) (p .tells) ∙ e)) in
         (p .refused l, p .represents .session ∙ ap sessionOf (opening-blank (length first) l));
-    command = λ s c q z. settled-refused (c .command) s (c .lent) (c .left) (c .answer .session) (told (c .answer .reply)) (does s c q .settled) z;
+    refusedCommand = λ s c q z. settled-refused (c .command) s (c .lent) (c .left) (c .answer .session) (told (c .answer .reply)) (does s c q .settled) z;
     settled = λ s c q. let d = does s c q in (d .long, d .settled);
   }

@@ -57,10 +57,10 @@ module _ (c : Command) (s : Session) (w : List ℕ) where
     does-refused = record {
       long = refl;
       settled = record {
-        isActive = b;
+        taken = b;
         possible = y;
-        refused = λ z. record { tells = ap numbered (sym e); session = refl; words = refl };
-        accepted = λ z. absurd (some-number k (sym e ∙ z));
+        refuses = λ z. record { tells = ap numbered (sym e); session = refl; words = refl };
+        accepts = λ z. absurd (some-number k (sym e ∙ z));
       };
       tells = λ h lent r. rw (there h lent r);
       represents = λ h lent r. rw (there h lent r) r;
@@ -88,10 +88,10 @@ module _ (c : Command) (s : Session) (w : List ℕ) where
   does-accepted b y {after} {r} l e a f = record {
     long = l;
     settled = record {
-      isActive = b;
+      taken = b;
       possible = y;
-      refused = λ z. absurd (z e);
-      accepted = λ z. inl a;
+      refuses = λ z. absurd (z e);
+      accepts = λ z. inl a;
     };
     tells = λ h lent q. rw (there h lent q) (f h lent q .1);
     represents = λ h lent q. rw (there h lent q) (f h lent q .2);
@@ -106,10 +106,10 @@ pub does-full : (s : Session) (w : List ℕ) → refusal s (length w) false Mark
 does-full s w e n = record {
   long = refl;
   settled = record {
-    isActive = false;
+    taken = false;
     possible = λ x. absurd (false≢true x);
-    refused = λ z. absurd (z e);
-    accepted = λ z. inr (refl, record { tells = refl; session = refl; words = refl });
+    refuses = λ z. absurd (z e);
+    accepts = λ z. inr (refl, record { tells = refl; session = refl; words = refl });
   };
   tells = λ h lent r. absurd (n h lent r);
   represents = λ h lent r. absurd (n h lent r);

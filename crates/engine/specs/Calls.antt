@@ -16,8 +16,8 @@ use Rattle.layout.specs.declared.Held.{Held}
 use Rattle.table.specs.declared.Found.{Found}
 use Rattle.table.specs.declared.Found.the-variants.{At, Nothing}
 use Rattle.table.specs.Marks.{Linked, activeIn, Live}
-use Rattle.engine.specs.Promises.{Settled}
-use Rattle.engine.specs.Keeping.{AsLent, Represents}
+use Rattle.engine.specs.Promises.{AsLent, Settled}
+use Rattle.engine.specs.Keeping.{Represents}
 
 -- the answer of a refusal
 abbrev pub refusedWith : Session → Refusal → Answer
@@ -41,7 +41,7 @@ pub record Does (c : Command) (s : Session) (before after : List ℕ) (r : Answe
   pub represents : (h : History) (lent : List ℕ) → Represents h lent s before
       → Represents (step h (length before) c .history) lent (r .session) after
 
--- a search for an active mark at position i, where i is no position before the first or after the present one
+-- a search for an active mark at position i; none is found at 0 or after the present position
 pub record Sighted (s : Session) (w : List ℕ) (i : Position) (r : Found) : Type 0 where
   pub sound : (g : Held) → r ≡ At g → Live w i g
   pub possible : (g : Held) → r ≡ At g → (0 < i .0) × (i .0 ≤ s .present .0)

@@ -1,4 +1,4 @@
--- DEMAND 3, one claim over the whole list: "for every list of values, taps, queries and closes, refused ones included, after one opening of
+-- The demands. DEMAND 3 is one claim over the whole list, with demand 2 in it: "for every list of values, taps, queries and closes, refused ones included, after one opening of
 -- any length on words of any content, with any length lent at each command".
 use mathlib.Core.Path.{_≡_}
 use mathlib.Core.Bool.{Bool, true, false, cond}
@@ -15,10 +15,9 @@ use Rattle.history.specs.declared.Command.{Command}
 use Rattle.history.specs.declared.Command.the-variants.{Mark, Query}
 use Rattle.history.specs.declared.Answer.{Answer}
 use Rattle.history.specs.Minima.{Least}
-use Rattle.history.specs.Replies.{told}
+use Rattle.history.specs.Replies.{told, showing}
 use Rattle.history.specs.Histories.{History, blank, among, sessionOf, step, opening}
-use Rattle.engine.specs.Promises.{Settled}
-use Rattle.engine.specs.Keeping.{AsLent}
+use Rattle.engine.specs.Promises.{AsLent, Settled}
 
 -- a call that was made: the command, the words lent for it, the words as it left them, and its answer
 pub record Call : Type 0 where
@@ -51,7 +50,8 @@ Made did n s words (c ∷ cs) =
     × did s c
     × Made did n (c .answer .session) (wordsAfter n words c) cs
 
--- one call agrees with the bookkeeper, whose paper is h before it and `later` after it. The engine was opened on the words `first`, which are `now` the words
+-- one call agrees with the bookkeeper, whose paper is h before it and `later` after it. The engine was opened on the words `first`, and `now` is
+-- what those words are after the call
 pub record Agrees (n : ℕ) (first now : List ℕ) (h later : History) (c : Call) : Type 0 where
   -- "the pedal's reply is the bookkeeper's, value and place included, and the session's numbers and standing are those on the paper"
   pub tells : told (c .answer .reply) ≡ step h (length (c .lent)) (c .command) .tells
@@ -65,7 +65,10 @@ pub record Agrees (n : ℕ) (first now : List ℕ) (h later : History) (c : Call
   pub full : c .command ≡ Mark → (h .words ≡ 0 → ⊥) → length (c .lent) ≡ h .words → h .standing ≡ Unmarked
       → (told (c .answer .reply) .number ≡ 10 → length (h .active) ≡ h .limit) × (length (h .active) ≡ h .limit → told (c .answer .reply) .number ≡ 10)
   -- DEMAND 2: "a query on an active tap gets the least value from the tap's position to the present and the place of that value"
-  pub least : (i : Position) (m : Minimum) → c .command ≡ Query i → told (c .answer .reply) .shown ≡ some m
+  pub gets : (i : Position) → c .command ≡ Query i → isOwn n (c .lent) ≡ true → among i (h .active) ≡ true
+      → (m : Minimum) × (told (c .answer .reply) ≡ showing m) × Least (h .values) i m
+  -- and no other query is shown anything
+  pub shown : (i : Position) (m : Minimum) → c .command ≡ Query i → told (c .answer .reply) .shown ≡ some m
       → (among i (h .active) ≡ true) × Least (h .values) i m
 
 -- each call of a list agrees, "after every command in the list"
@@ -94,9 +97,9 @@ Demand3 opened did =
 -- call ends is what the checker shows of every function
 pub record Demand1 (opened : OpeningSays) (did : CallSays) : Type 0 where
   -- "a refusal changes no word of the memory and nothing in the session"
-  pub opening : (first left : List ℕ) (o : Answer) → opened first left o → (told (o .reply) .number ≡ 0 → ⊥)
+  pub refusedOpening : (first left : List ℕ) (o : Answer) → opened first left o → (told (o .reply) .number ≡ 0 → ⊥)
       → (left ≡ first) × (o .session ≡ sessionOf (blank 0 0))
-  pub command : (s : Session) (c : Call) → did s c → (told (c .answer .reply) .number ≡ 0 → ⊥) → (c .left ≡ c .lent) × (c .answer .session ≡ s)
+  pub refusedCommand : (s : Session) (c : Call) → did s c → (told (c .answer .reply) .number ≡ 0 → ⊥) → (c .left ≡ c .lent) × (c .answer .session ≡ s)
   -- "A wrong command is refused by the numbers of document 01", and a right one is not
   pub settled : (s : Session) (c : Call) → did s c
       → (length (c .left) ≡ length (c .lent)) × Settled (c .command) s (c .lent) (c .left) (c .answer .session) (told (c .answer .reply))

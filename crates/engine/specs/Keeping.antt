@@ -9,22 +9,22 @@ use Rattle.history.specs.Histories.{History, presentOf, sessionOf}
 use Rattle.layout.specs.Layout.{capacity}
 use Rattle.table.specs.Marks.{Above}
 use Rattle.ranges.specs.Holding.{Holds}
-
--- "every word from index 512 + 64 × l on is still as it was lent"
-abbrev pub AsLent : ℕ → List ℕ → List ℕ → Type 0
-AsLent peak lent words = (i : ℕ) → 512 + 64 * peak ≤ i → getD words i 0 ≡ getD lent i 0
+use Rattle.engine.specs.Promises.{AsLent}
 
 -- the words keep the history h, opened on the words `lent`
 pub record Keeps (h : History) (lent words : List ℕ) : Type 0 where
+  -- they hold the values' range minima for the active marks
   pub holds : Holds words (h .values) (h .active)
+  -- what lies beyond the bound is as it was, and the table ends below it
   pub rest : AsLent (h .peak) lent words
-  -- the table stays below the bound, the peak below the limit, and the limit's words in the area
   pub bound : 16 + 8 * capacity words ≤ 512 + 64 * h .peak
+  -- no more marks are active than ever were, nor were there ever more than K, which is at most 4,096
   pub peaked : length (h .active) ≤ h .peak
   pub limited : h .peak ≤ h .limit
   pub few : h .limit ≤ 4096
+  -- K marks' words are in the area
   pub wide : 512 + 64 * h .limit ≤ h .words
-  -- an unmarked present position comes after every mark
+  -- where the present position is unmarked there is one, and it comes after every mark
   pub some : h .standing ≡ Unmarked → 0 < length (h .values)
   pub fresh : h .standing ≡ Unmarked → Above words (presentOf h)
 

@@ -5,8 +5,8 @@ use mathlib.Core.Path.{_≡_}
 use mathlib.Core.Bool.{Bool, true}
 use mathlib.Core.List.{List}
 use mathlib.Core.Logic.{_⊎_}
-use Prim.Native.Nat.{ℕ, _<_, _≤_}
-use lib.ListN.{length}
+use Prim.Native.Nat.{ℕ, _+_, _*_, _<_, _≤_}
+use lib.ListN.{length, getD}
 use Rattle.history.specs.declared.Minimum.{Minimum}
 use Rattle.history.specs.declared.Standing.the-variants.{Unmarked, Marked}
 use Rattle.history.specs.declared.Session.{Session}
@@ -16,6 +16,10 @@ use Rattle.history.specs.Minima.{next}
 use Rattle.history.specs.Replies.{Told, numbered, accepted, showing}
 use Rattle.history.specs.Refusals.{refusal}
 use Rattle.history.specs.Histories.{closedAt}
+
+-- "every word from index 512 + 64 × l on is still as it was lent"
+abbrev pub AsLent : ℕ → List ℕ → List ℕ → Type 0
+AsLent peak lent words = (i : ℕ) → 512 + 64 * peak ≤ i → getD words i 0 ≡ getD lent i 0
 
 -- "In each refusal the session comes back equal .. and the area is untouched; .. no value or place is shown."
 pub record AfterRefusal (n : ℕ) (s : Session) (before after : List ℕ) (t : Session) (a : Told) : Type 0 where
@@ -80,11 +84,11 @@ Possible s Mark = Unit {0}
 Possible s (Query i) = (0 < i .0) × (i .0 ≤ s .present .0)
 Possible s (Close i) = (0 < i .0) × (i .0 ≤ s .present .0)
 
--- THE PROMISE ON ANY INPUT. The first refusal that applies is given, and else the command is accepted, where whether the position is an active
--- mark is the program's to say of words that no call left. Of such words it may also say that they are full; of its own it never does so early,
+-- THE PROMISE ON ANY INPUT: there is a `taken`, which says whether the program takes the command's position for an active mark, such that the first refusal that
+-- applies is given, and else the command is accepted. Of words that no call left that choice is the program's. Of such words it may also say that they are full; of its own it never does so early,
 -- which `Does` says
 pub record Settled (c : Command) (s : Session) (before after : List ℕ) (t : Session) (a : Told) : Type 0 where
-  pub isActive : Bool
-  pub possible : isActive ≡ true → Possible s c
-  pub refused : (refusal s (length before) isActive c ≡ 0 → ⊥) → AfterRefusal (refusal s (length before) isActive c) s before after t a
-  pub accepted : refusal s (length before) isActive c ≡ 0 → AfterAcceptance c s before after t a ⊎ ((c ≡ Mark) × AfterRefusal 10 s before after t a)
+  pub taken : Bool
+  pub possible : taken ≡ true → Possible s c
+  pub refuses : (refusal s (length before) taken c ≡ 0 → ⊥) → AfterRefusal (refusal s (length before) taken c) s before after t a
+  pub accepts : refusal s (length before) taken c ≡ 0 → AfterAcceptance c s before after t a ⊎ ((c ≡ Mark) × AfterRefusal 10 s before after t a)

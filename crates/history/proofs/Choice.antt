@@ -1,4 +1,5 @@
--- The laws of the choice among equal values. Those that the stack needs hold of `leZ` as of `ltZ`: nothing above this crate looks into `takesOver`.
+-- The laws of the choice among equal values. Those that the stack needs hold of `leZ` as of `ltZ`: above this crate only the proof of the comparison itself looks
+-- into `takesOver`.
 use mathlib.Core.Path.{_≡_, sym, ap, _∙_}
 use mathlib.Core.Bool.{Bool, true, false, cond}
 use lib.IntN.{ℤ}

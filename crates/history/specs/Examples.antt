@@ -1,4 +1,4 @@
--- Document 01, "Played examples": those marked *, in its order. "Every case opens with 576 words (K = 1) unless it says otherwise."
+-- Document 01, "Played examples": those marked *, in its order, with what stands in the same item. "Every case opens with 576 words (K = 1) unless it says otherwise."
 use mathlib.Core.Path.{_≡_}
 use mathlib.Core.List.{List, [], _∷_, map}
 use Prim.Native.Nat.{ℕ}
@@ -56,8 +56,12 @@ examples =
     -- "With 640: K = 2; with 639: K = 1."
     ∷ opened 640 accepted 2
     ∷ opened 639 accepted 1
-    -- "First command Mark: 7."
+    -- "With 262,656: K = 4,096, and with 262,720 also 4,096."
+    ∷ opened 262656 accepted 4096
+    ∷ opened 262720 accepted 4096
+    -- "First command Mark: 7. First command Query 0: 11."
     ∷ played (Mark ∷ []) (numbered 7 ∷ [])
+    ∷ played (Query (at 0) ∷ []) (numbered 11 ∷ [])
     -- "V 5, M, Q 1: dip 5 at 1."
     ∷ played (Value (pos 5) ∷ Mark ∷ Query (at 1) ∷ []) (accepted ∷ accepted ∷ showing (standsAt (pos 5) (at 1)) ∷ [])
     -- "V 5, M, V 5, Q 1: dip 5 at 2."

@@ -1,6 +1,6 @@
 // Where things stand in the lent words: a header of 16 words, then rows of 8.
 // Row n holds the mark of reduced position n (words 0 to 2), the stack entry at place n (3 to 5) and the head of hash bucket n (6);
-// word 7 is spare. So the words touched grow with the rows in use and with nothing else.
+// word 7 is spare. So the words touched grow with the rows there is room for, and these with the active marks.
 ghost use Rattle.layout.specs.Layout.{Headed};
 
 // A reduced position: source document 000's number of a mark among those it keeps, here its row.

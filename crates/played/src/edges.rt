@@ -28,7 +28,7 @@ fn unopened() {
 }
 
 // Two marks share a dip, with K = 2.
-fn shared_dip() {
+fn shared_minimum() {
     let mut area = [0u64; 640];
     let s = call::open(&mut area);
     let s = script::run(s, &mut area, b"V5 M V5 M Q1 Q2");
@@ -54,7 +54,7 @@ pub fn sequences() {
     examples::play(b"V1 M V2 M M Q2 C2 M C1 M Q2");
     // Among equal values the latest place counts, also after a greater one.
     examples::play(b"V3 M V3 V4 V3 Q1");
-    shared_dip();
+    shared_minimum();
     rebuilds();
     unopened();
 }

@@ -26,6 +26,6 @@ pub record Holds (w : List ℕ) (values : List ℤ) (active : List Position) : T
   pub minima : (h : Held) → h .0 < rows w → Rests w h (minimum values (positionOf w h))
 
 -- the rows that a table for so many active marks has room for: three times as many again before the next rebuild, and 62, which is what the
--- first 512 words take. Document 000, section 3.2, allocates "a' = 2c"; the words allow twice that
+-- first 512 words have room for. Document 000, section 3.2, allocates "a' = 2c"; the words allow twice that
 abbrev pub roomFor : ℕ → ℕ
 roomFor active = 4 * active + 62

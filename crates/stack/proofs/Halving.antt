@@ -1,4 +1,4 @@
--- A predecessor search by halves over the runs' first rows: the row's run is at a place from `low` up and below `high`.
+-- A predecessor search by halves over the runs' first rows: the row's run is one of the `size` places from `low` up.
 use mathlib.Core.Path.{_≡_, ap, subst}
 use mathlib.Core.List.{List}
 use mathlib.Core.Logic.{⊎-elim}

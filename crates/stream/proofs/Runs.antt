@@ -34,7 +34,7 @@ at-most-one t = go (eqb (t .number) 0)
 pub rest : (s : List ℕ) (at : ℕ) → take (length s - at) (drop at s) ≡ drop at s
 rest s at = take-all (length s - at) (drop at s) (simp length-drop (omega arith))
 
--- a bookkeeper with the later h has come as far as the run, and the session and the words keep the later
+-- a bookkeeper who began with the history h has come as far as the run, and the session and the words keep the `later` history
 pub record Reached (h : History) (n : ℕ) (bytes lent words : List ℕ) (run : Run) (at : ℕ) : Type 0 where
   pub later : History
   pub followed : Followed h n bytes at later (run .read) (run .accepted)

@@ -18,7 +18,7 @@ use Rattle.stream.specs.declared.Run.{Run}
 abbrev pub acceptances : Told → ℕ
 acceptances t = cond (eqb (t .number) 0) 1 0
 
--- a bookkeeper with the history h, told the commands of a stream's first `at` bytes, each with n words lent, has the `later` after them; so many were read, and so many
+-- a bookkeeper with the history h, told the commands of a stream's first `at` bytes, each with n words lent, has the `later` history after them; so many were read, and so many
 -- of them accepted
 pub data Followed (h : History) (n : ℕ) (bytes : List ℕ) : (at : ℕ) (later : History) (read accepted : ℕ) → Type 0 where
   start : Followed h n bytes 0 h 0 0
