@@ -28,7 +28,7 @@ use Rattle.table.proofs.Active.{among-live}
 use Rattle.engine.specs.Promises.{AsLent, AfterRefusal, AfterAcceptance, shows, Settled}
 use Rattle.engine.specs.Keeping.{Keeps, Represents}
 use Rattle.engine.specs.Calls.{Opens, Does}
-use Rattle.engine.specs.Demand.{Call, OpeningSays, CallSays, isOwn, Made, Agrees, AllAgree, Demand3, Demand1}
+use Rattle.engine.specs.Demand.{Call, OpeningSays, CallSays, isOwn, Made, Agrees, AllAgree, Demand3, Demand1, AllTold, OnlyFours}
 use Rattle.engine.proofs.Steps.{refusal-unopened, refusal-other, refusal-own, step-refused, step-accepted}
 
 -- no command alters the opened length
@@ -242,6 +242,11 @@ settled-refused c s before after t a q z = elim (ℕ-discrete (refusal s (length
     shows-none (Query i) m = refl
     shows-none (Close i) m = refl
 
+-- on the history of a refused opening every command is told 4
+fours : (first words : List ℕ) (cs : List Call) → AllAgree 0 first words (blank 0 0) cs → AllTold (numbered 4) cs
+fours first words [] a = tt
+fours first words (c ∷ cs) a = (a .0 .tells, a .0 .elsewhere refl, fours first words cs (a .1))
+
 -- what is known of the calls gives what the contracts say
 module _ (opened : OpeningSays) (did : CallSays) (opens : (first left : List ℕ) (o : Answer) → opened first left o → Opens first left o)
     (does : (s : Session) (c : Call) → did s c → Does (c .command) s (c .lent) (c .left) (c .answer)) where
@@ -274,3 +279,9 @@ module _ (opened : OpeningSays) (did : CallSays) (opens : (first left : List ℕ
     refusedCommand = λ s c q z. settled-refused (c .command) s (c .lent) (c .left) (c .answer .session) (told (c .answer .reply)) (does s c q .settled) z;
     settled = λ s c q. let d = does s c q in (d .long, d .settled);
   }
+
+  pub only-fours : OnlyFours opened did
+  only-fours first left o cs l q m =
+      let e = opening-blank (length first) l in
+      let n : opening (length first) .history .words ≡ 0 = ap (λ (h : History). h .words) e in
+      fours first left cs (rw (n, e) at (demand-3 first left o cs q (rw n m) .1))

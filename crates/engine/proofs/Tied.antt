@@ -11,7 +11,7 @@ use Rattle.history.specs.declared.Command.{Command}
 use Rattle.history.specs.declared.Command.the-variants.{Value, Mark, Query, Close}
 use Rattle.history.specs.declared.Answer.{Answer}
 use Rattle.engine.specs.Calls.{Opens, Does}
-use Rattle.engine.specs.Demand.{OpeningSays, CallSays, Demand3, Demand1}
+use Rattle.engine.specs.Demand.{OpeningSays, CallSays, Demand3, Demand1, OnlyFours}
 use Rattle.engine.proofs.Theorem as theorem
 use Rattle.engine.proofs.open.Reads as open-reads
 use Rattle.engine.proofs.value.Reads as value-reads
@@ -53,3 +53,7 @@ demand-1 = theorem.demand-1 Opened Called opens (λ s c. does s (c .command) (c 
 -- DEMAND 3, and demand 2 in it
 pub demand-3 : Demand3 Opened Called
 demand-3 = theorem.demand-3 Opened Called opens (λ s c. does s (c .command) (c .lent) (c .left) (c .answer))
+
+-- and what follows a refused opening
+pub only-fours : OnlyFours Opened Called
+only-fours = theorem.only-fours Opened Called opens (λ s c. does s (c .command) (c .lent) (c .left) (c .answer))

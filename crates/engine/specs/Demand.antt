@@ -4,7 +4,7 @@ use mathlib.Core.Path.{_≡_}
 use mathlib.Core.Bool.{Bool, true, false, cond}
 use mathlib.Core.List.{List, [], _∷_}
 use mathlib.Core.Option.{some}
-use Prim.Native.Nat.{ℕ}
+use Prim.Native.Nat.{ℕ, _<_}
 use lib.Dec.{eqb}
 use lib.ListN.{length}
 use Rattle.history.specs.declared.Position.{Position}
@@ -15,7 +15,7 @@ use Rattle.history.specs.declared.Command.{Command}
 use Rattle.history.specs.declared.Command.the-variants.{Mark, Query}
 use Rattle.history.specs.declared.Answer.{Answer}
 use Rattle.history.specs.Minima.{Least}
-use Rattle.history.specs.Replies.{told, showing}
+use Rattle.history.specs.Replies.{Told, numbered, showing, told}
 use Rattle.history.specs.Histories.{History, blank, among, sessionOf, step, opening}
 use Rattle.engine.specs.Promises.{AsLent, Settled}
 
@@ -103,3 +103,17 @@ pub record Demand1 (opened : OpeningSays) (did : CallSays) : Type 0 where
   -- "A wrong command is refused by the numbers of document 01", and a right one is not
   pub settled : (s : Session) (c : Call) → did s c
       → (length (c .left) ≡ length (c .lent)) × Settled (c .command) s (c .lent) (c .left) (c .answer .session) (told (c .answer .reply))
+
+-- each call of a list was told t, and altered no word
+abbrev pub AllTold : Told → List Call → Type 0
+AllTold t [] = Unit {0}
+AllTold t (c ∷ cs) = (told (c .answer .reply) ≡ t) × (c .left ≡ c .lent) × AllTold t cs
+
+-- A CONSEQUENCE: an opening below 576 words is followed by replies 4 only, whatever words are lent
+abbrev pub OnlyFours : OpeningSays → CallSays → Type 0
+OnlyFours opened did =
+    (first left : List ℕ) (o : Answer) (calls : List Call)
+    → length first < 576
+    → opened first left o
+    → Made did 0 (o .session) left calls
+    → AllTold (numbered 4) calls
