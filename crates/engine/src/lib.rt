@@ -28,10 +28,10 @@ fn limit_of(n: usize) -> usize
         return 0;
     }
     let k = (n - 512) / 64;
-    if k < 4096 {
+    if k < layout::MOST_MARKS {
         return k;
     }
-    4096
+    layout::MOST_MARKS
 }
 
 fn refuse(s: Session, why: Refusal) -> Answer
@@ -61,7 +61,7 @@ pub fn open(area: &mut [u64]) -> Answer
             },
         };
     }
-    table::clear(area, 62);
+    table::clear(area, layout::FIRST_ROWS);
     Answer {
         reply: Reply::Accepted,
         session: Session {
@@ -131,7 +131,7 @@ fn mark_unmarked(s: Session, area: &mut [u64]) -> Answer
     if active == s.limit {
         return refuse(s, Refusal::Full);
     }
-    if 4096 <= active {
+    if layout::MOST_MARKS <= active {
         return refuse(s, Refusal::Full);
     }
     let present = s.present;

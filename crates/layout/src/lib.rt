@@ -3,6 +3,15 @@
 // word 7 is spare. So the words touched grow with the rows there is room for, and these with the active marks.
 ghost use Rattle.layout.specs.Layout.{Headed};
 
+// The most marks that an area is opened for, whatever its length.
+pub const MOST_MARKS: usize = 4096;
+
+// The rows that the first 512 words have room for.
+pub const FIRST_ROWS: usize = 62;
+
+// The rows of the largest table: 4 for each mark, and the first ones.
+pub const MOST_ROWS: usize = 16446;
+
 // A reduced position: source document 000's number of a mark among those it keeps, here its row.
 pub struct Held(pub usize);
 
@@ -35,7 +44,7 @@ pub fn read_header(area: &[u64]) -> Header
     if capacity == 0 {
         return none;
     }
-    if 16446 < capacity {
+    if MOST_ROWS < capacity {
         return none;
     }
     if capacity < rows {

@@ -78,13 +78,13 @@ fn carry(area: &mut [u64], held: Held, low: Minimum)
 fn rebuild(area: &mut [u64], active: usize)
     ensures { λ r. ⌜ Rebuilt (now (area .entry)) (now (area .exit)) active ⌝ }
 {
-    if 4096 < active {
+    if layout::MOST_MARKS < active {
         return;
     }
     let head = layout::read_header(area);
     let count = head.rows;
     let top = head.height;
-    table::clear(area, 4 * active + 62);
+    table::clear(area, 4 * active + layout::FIRST_ROWS);
     let mut run = Run {
         next: Place(0),
         end: Held(0),

@@ -90,7 +90,7 @@ pub fn clear(area: &mut [u64], c: usize)
     if c == 0 {
         return;
     }
-    if 16446 < c {
+    if layout::MOST_ROWS < c {
         return;
     }
     if n < 16 + 8 * c {
