@@ -27,7 +27,7 @@ pub fn append(area: &mut [u64], p: Position, m: Minimum)
     stack::push(area, m);
 }
 
-// The run that has row h, from the one that has the row before it.
+// The run that has a row, from the one that has the row before it.
 fn advance(area: &[u64], run: Run, held: Held, count: usize, top: usize) -> Run
     requires { ⌜ (top ≤ count) × (count ≤ 16446) × (16 + 8 * count ≤ length (now area)) ⌝ }
     ensures { λ r. ⌜ Advanced (now (area .entry)) held count top run r ⌝ }

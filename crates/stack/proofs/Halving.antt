@@ -10,7 +10,7 @@ use Rattle.layout.specs.declared.Header.{Header}
 use Rattle.layout.specs.declared.Place.{Place}
 use Rattle.layout.specs.Layout.{first, Headed, height as heightOf}
 use Rattle.stack.specs.Runs.{Stacked, Covers}
-use Rattle.stack.specs.Calls.{Sought}
+use Rattle.stack.specs.Calls.{Located}
 use Rattle.words.proofs.Offset.{lt-or-ge}
 use Rattle.stack.proofs.Places.{own-height}
 
@@ -69,7 +69,7 @@ turn {w} {h} {height} {low} {size} {r} b l on stay =
 
 -- one place is left: in a stack that has the row, its run does
 pub found : {w : List ℕ} {r : Header} {h : Held} {low size : ℕ} → Headed w r → Between w (h .0 % 65536) (r .height) low size → size ≤ 1
-    → Sought w h (record { 0 = low })
+    → Located w h (record { 0 = low })
 found {w} {r} {h} {low} {size} read b l = record { covers = covers }
   where
     covers : (n : ℕ) → Stacked w n → h .0 < n → Covers w (record { 0 = low }) h

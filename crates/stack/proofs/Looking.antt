@@ -13,11 +13,11 @@ use Rattle.layout.specs.Layout.{leastAt, Headed}
 use Rattle.stack.specs.declared.Low.{Low}
 use Rattle.stack.specs.declared.Low.the-variants.{At}
 use Rattle.stack.specs.Runs.{least, entry, Stacked, Rests}
-use Rattle.stack.specs.Calls.{Sought, Looked}
+use Rattle.stack.specs.Calls.{Located, Looked}
 use Rattle.stack.proofs.Places.{own-height}
 use Rattle.stack.proofs.Rows.{rests-unique}
 
-module _ {w : List ℕ} {h : Held} {p : Place} (s : Sought w h p) where
+module _ {w : List ℕ} {h : Held} {p : Place} (s : Located w h p) where
   -- the entry at the place is the row's minimum
   its-own : {n : ℕ} {m : Minimum} → Stacked w n → h .0 < n → Rests w h m → entry w p ≡ m
   its-own {n} k l x = rests-unique k (record { place = p; covers = s .covers n k l; same = refl }) x

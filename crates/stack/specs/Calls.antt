@@ -58,7 +58,7 @@ pub record Topping (w : List ℕ) (p : Position) (r : Bool) : Type 0 where
   pub no : r ≡ false → Fits w → (t : Place) → t .0 + 1 ≡ height w → leastAt w t ≡ p .0 → ⊥
 
 -- the place whose run has row h; of words that are no stack, any place
-pub record Sought (w : List ℕ) (h : Held) (r : Place) : Type 0 where
+pub record Located (w : List ℕ) (h : Held) (r : Place) : Type 0 where
   pub covers : (n : ℕ) → Stacked w n → h .0 < n → Covers w r h
 
 -- the minimum that the stack has for row h, where its position is one of the stream's; of words that are no stack, any or none

@@ -3,7 +3,7 @@ ghost use mathlib.Core.Path.{_≡_};
 ghost use Prim.Native.Nat.{_+_, _*_, _<_, _≤_};
 ghost use lib.ListN.{length};
 ghost use Rattle.history.specs.Minima.{takesOver};
-ghost use Rattle.stack.specs.Calls.{TakenOver, Topped, Lowered, Pushed, Topping, Sought, Looked};
+ghost use Rattle.stack.specs.Calls.{TakenOver, Topped, Lowered, Pushed, Topping, Located, Looked};
 use history::Minimum;
 use history::Position;
 use layout::Held;
@@ -103,7 +103,7 @@ fn onward(half: usize, first: usize, h: usize) -> usize
 
 // The place whose run has a row: a predecessor search over the runs' first rows (source document 000, Theorem 3).
 fn covering(area: &[u64], held: Held) -> Place
-    ensures { λ r. ⌜ Sought (now (area .entry)) held r ⌝ }
+    ensures { λ r. ⌜ Located (now (area .entry)) held r ⌝ }
 {
     let h = held.0 % 65536;
     let head = layout::read_header(area);
