@@ -23,7 +23,8 @@ use Rattle.engine.proofs.close.Reads as close-reads
 abbrev pub Opened : OpeningSays
 Opened before after o = (κs : Lfts 1) × (x : RefT (List ℕ)) × open-reads.Learnt κs (at-last x before, tt) o (at-last x after, tt)
 
--- the command's function was called on the session s and the words `lent`, which it left as `left`, and gave r. A `query` has a `&[u64]`
+-- the command's function was called on the session s and the words `lent`, which it left as `left`, and gave r. A `query`
+-- has a `&[u64]`, which nothing can be written through
 abbrev pub CalledFor : Session → Command → List ℕ → List ℕ → Answer → Type 0
 CalledFor s (Value v) lent left r =
     (κs : Lfts 1) × (x : RefT (List ℕ)) × value-reads.Learnt κs (s, (at-last x lent, (v, tt))) r (s, (at-last x left, (v, tt)))

@@ -1,5 +1,5 @@
--- The demands. DEMAND 3 is one claim over the whole list, with demand 2 in it: "for every list of values, taps, queries and closes, refused ones included, after one opening of
--- any length on words of any content, with any length lent at each command".
+-- The demands. DEMAND 3 is one claim over the whole list, with demand 2 in it: "for every list of values, taps, queries and closes, refused
+-- ones included, after one opening of any length on words of any content, with any length lent at each command".
 use mathlib.Core.Path.{_≡_}
 use mathlib.Core.Bool.{Bool, true, false, cond}
 use mathlib.Core.List.{List, [], _∷_}

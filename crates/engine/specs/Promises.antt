@@ -69,7 +69,8 @@ Unaltered Mark before after = Unit {0}
 Unaltered (Query i) before after = after ≡ before
 Unaltered (Close i) before after = Unit {0}
 
--- accepted. Free on words that no call left: the count of active marks, the minimum shown, and what stands in the words, which a Query alters not at all
+-- accepted. Free on words that no call left: the count of active marks, the minimum shown, and what stands in the words, which a Query
+-- alters not at all
 pub record AfterAcceptance (c : Command) (s : Session) (before after : List ℕ) (t : Session) (a : Told) : Type 0 where
   pub counted : ℕ
   pub found : Minimum
@@ -84,9 +85,9 @@ Possible s Mark = Unit {0}
 Possible s (Query i) = (0 < i .0) × (i .0 ≤ s .present .0)
 Possible s (Close i) = (0 < i .0) × (i .0 ≤ s .present .0)
 
--- THE PROMISE ON ANY INPUT: there is a `taken`, which says whether the program takes the command's position for an active mark, such that the first refusal that
--- applies is given, and else the command is accepted. Of words that no call left that choice is the program's. Of such words it may also say that they are full; of its own it never does so early,
--- which `Does` says
+-- THE PROMISE ON ANY INPUT: there is a `taken`, which says whether the program takes the command's position for an active mark, such that the
+-- first refusal that applies is given, and else the command is accepted. Of words that no call left that choice is the program's, and it may also
+-- say that they are full. Of words that a call left, `Does` fixes both
 pub record Settled (c : Command) (s : Session) (before after : List ℕ) (t : Session) (a : Told) : Type 0 where
   pub taken : Bool
   pub possible : taken ≡ true → Possible s c

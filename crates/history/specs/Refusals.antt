@@ -3,6 +3,7 @@
 use mathlib.Core.Bool.{Bool, cond}
 use Prim.Native.Nat.{ℕ}
 use lib.Dec.{eqb}
+use Rattle.history.specs.declared.Position.{Position}
 use Rattle.history.specs.declared.Standing.{Standing}
 use Rattle.history.specs.declared.Standing.the-variants.{None, Unmarked, Marked, Closed}
 use Rattle.history.specs.declared.Session.{Session}
@@ -10,8 +11,8 @@ use Rattle.history.specs.declared.Command.{Command}
 use Rattle.history.specs.declared.Command.the-variants.{Value, Mark, Query, Close}
 
 -- "The highest is 4,294,967,295."
-abbrev pub highest : ℕ
-highest = 4294967295
+abbrev pub highest : Position
+highest = record { 0 = 4294967295 }
 
 -- 7 to 10, of a Mark: by the standing, and then "when exactly K taps are active"
 abbrev pub markRefusal : Session → Standing → ℕ
@@ -22,7 +23,7 @@ markRefusal s Closed = 9
 
 -- 6 to 11, on an area of the opened length
 abbrev pub ownRefusal : Session → Bool → Command → ℕ
-ownRefusal s isActive (Value v) = cond (eqb (s .present .0) highest) 6 0
+ownRefusal s isActive (Value v) = cond (eqb (s .present .0) (highest .0)) 6 0
 ownRefusal s isActive Mark = markRefusal s (s .standing)
 ownRefusal s isActive (Query i) = cond isActive 0 11
 ownRefusal s isActive (Close i) = cond isActive 0 11

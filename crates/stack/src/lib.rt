@@ -101,7 +101,8 @@ fn onward(half: usize, first: usize, h: usize) -> usize
     half * ((65536 + h - first) / 65536)
 }
 
-// The place whose run has a row: a predecessor search over the runs' first rows (source document 000, Theorem 3).
+// The place whose run has a row: a predecessor search over the runs' first rows (source document 000, Theorem 3). No table has 65,536
+// rows, so the remainders alter nothing of a stack's rows; of other contents they keep the numbers small.
 fn covering(area: &[u64], held: Held) -> Place
     ensures { λ r. ⌜ Located (now (area .entry)) held r ⌝ }
 {
