@@ -1,4 +1,6 @@
--- The ways out of a Query and of a Close, on an area of the opened length: the position is looked for among the marks.
+-- The ways out of a Query and of a Close on an area of the opened length. The position is looked for among the marks. A history's position that is not found is not active: every
+-- active mark stands at a position from 1 to the present one, and there the search is complete. One that is found is active, and the stack has its minimum. A Close of it
+-- clears its row's flag alone, so that the marks lose the one position, and the count with them.
 use mathlib.Core.Path.{_≡_, refl, sym, ap, _∙_}
 use mathlib.Core.List.{List, [], _∷_}
 use mathlib.Core.Bool.{Bool, true, false, cond, false≢true}
@@ -8,18 +10,20 @@ use lib.Dec.{eqb}
 use lib.ListN.{length}
 use Rattle.history.specs.declared.Position.{Position}
 use Rattle.history.specs.declared.Minimum.{Minimum}
-use Rattle.history.specs.declared.Standing.{Standing}
-use Rattle.history.specs.declared.Standing.the-variants.{Unmarked, Closed}
 use Rattle.history.specs.declared.Session.{Session}
 use Rattle.history.specs.declared.Command.{Command}
 use Rattle.history.specs.declared.Command.the-variants.{Query, Close}
 use Rattle.history.specs.declared.Refusal.the-variants.{NotActive}
-use Rattle.history.specs.declared.Reply.the-variants.{Accepted, Lowest}
+use Rattle.history.specs.declared.Reply.the-variants.{Lowest}
 use Rattle.history.specs.Minima.{standsAt, minimum}
 use Rattle.history.specs.Replies.{showing}
+use Rattle.history.specs.Standings.{eventOf, nextStanding}
 use Rattle.history.specs.Refusals.{refusal}
-use Rattle.history.specs.Histories.{History, presentOf, sessionOf, among, without, isActive, closed}
+use Rattle.history.specs.Histories.{History, presentOf, sessionOf, among, isActive, closed}
+use Rattle.history.specs.Sound.{Sound}
 use Rattle.history.proofs.Order.{clash}
+use Rattle.history.proofs.Steps.{refusal-own}
+use Rattle.history.proofs.Soundness.{rising-among, struck-one, was-unmarked}
 use Rattle.layout.specs.declared.Held.{Held}
 use Rattle.layout.specs.Layout.{position}
 use Rattle.table.specs.declared.Found.{Found}
@@ -27,18 +31,16 @@ use Rattle.table.specs.declared.Found.the-variants as found
 use Rattle.table.specs.Marks.{Live}
 use Rattle.table.specs.Calls.{Sought, Released}
 use Rattle.table.proofs.Positions.{refuted}
-use Rattle.table.proofs.Active.{live-among, among-live, not-among}
-use Rattle.table.proofs.Struck.{struck-once}
+use Rattle.table.proofs.Active.{live-among, not-among}
 use Rattle.stack.specs.declared.Low.{Low}
 use Rattle.stack.specs.declared.Low.the-variants as low
 use Rattle.stack.specs.Calls.{Looked}
 use Rattle.ranges.specs.Holding.{positionOf}
 use Rattle.ranges.proofs.Upkeep.{looked-minimum, released-holds}
-use Rattle.engine.specs.Promises.{sessionAfter}
 use Rattle.engine.specs.Keeping.{Keeps, Represents}
-use Rattle.engine.specs.Calls.{Does, Sighted, refusedWith}
-use Rattle.engine.proofs.Steps.{refusal-own}
-use Rattle.engine.proofs.Ways.{does-refused, does-accepted, own-of}
+use Rattle.engine.specs.Contracts.{Does}
+use Rattle.engine.specs.Private.{refusedWith, acceptedWith, Seeks}
+use Rattle.engine.proofs.Doing.{ForEach, does-refused, does-accepted, own-of}
 
 -- a command that names a position: a Query or a Close
 pub data Names (i : Position) : Command → Type 0 where
@@ -56,25 +58,23 @@ module _ (s : Session) (w : List ℕ) (i : Position) (z : s .words ≡ 0 → ⊥
   active-of c a-close h = refl
 
   -- 11, for a reason that of a history's words is that the position is not active
-  inactive : (c : Command) → Names i c → ((h : History) (lent : List ℕ) → Represents h lent s w → among i (h .active) ≡ false)
+  inactive : (c : Command) → Names i c → ForEach s w (λ h lent. among i (h .active) ≡ false)
       → Does c s w w (refusedWith s NotActive)
   inactive c n f =
       does-refused c s w NotActive false (λ x. absurd (false≢true x)) (due-to c n false)
-      (λ h lent r. due-to c n (isActive h c) ∙ ap (λ (b : Bool). cond b 0 11) (active-of c n h ∙ f h lent r))
+      (λ h lent q r. due-to c n (isActive h c) ∙ ap (λ (b : Bool). cond b 0 11) (active-of c n h ∙ f h lent q r))
 
   -- the search found nothing
-  pub asked-nothing : (c : Command) → Names i c → (r : Found) → Sighted s w i r → r ≡ found.Nothing → Does c s w w (refusedWith s NotActive)
-  asked-nothing c n r q e = inactive c n (λ h lent t.
+  pub asked-nothing : (c : Command) → Names i c → (r : Found) → Seeks s w i r → r ≡ found.Nothing → Does c s w w (refusedWith s NotActive)
+  asked-nothing c n r q e = inactive c n (λ h lent y t.
       let k = own-of c s w z o t in
       let p : s .present .0 ≡ length (h .values) = ap (λ (x : Session). x .present .0) (t .session) in
-      ap (among i) (sym (k .holds .marks))
-      ∙ refuted _ (λ a.
-      let m = among-live w i a in
-      let l = m .1 in
-      clash a (q .complete e (k .holds .linked) (omega (arith, l .here, k .holds .after (m .0) (l .row))) (omega (arith, l .here, p, k .holds .before (m .0) (l .row))))))
+      refuted _ (λ a.
+      let m = rising-among i (y .rising) a in
+      clash (ap (among i) (k .holds .marks) ∙ a) (q .complete e (k .holds .linked) (m .0) (omega (arith, p, m .1)))))
 
   -- the search found row g
-  module _ (g : Held) (r : Found) (q : Sighted s w i r) (e : r ≡ found.At g) where
+  module _ (g : Held) (r : Found) (q : Seeks s w i r) (e : r ≡ found.At g) where
     live : Live w i g
     live = q .sound g e
 
@@ -82,12 +82,12 @@ module _ (s : Session) (w : List ℕ) (i : Position) (z : s .words ≡ 0 → ⊥
     is-active : (h : History) (lent : List ℕ) → Keeps h lent w → among i (h .active) ≡ true
     is-active h lent k = ap (among i) (sym (k .holds .marks)) ∙ live-among w i g live
 
-    due-none : (c : Command) → Names i c → (h : History) (lent : List ℕ) → Represents h lent s w → refusal s (length w) (isActive h c) c ≡ 0
-    due-none c n h lent t = due-to c n (isActive h c) ∙ ap (λ (b : Bool). cond b 0 11) (active-of c n h ∙ is-active h lent (own-of c s w z o t))
+    due-none : (c : Command) → Names i c → ForEach s w (λ h lent. refusal s (length w) (isActive h c) c ≡ 0)
+    due-none c n h lent _ t = due-to c n (isActive h c) ∙ ap (λ (b : Bool). cond b 0 11) (active-of c n h ∙ is-active h lent (own-of c s w z o t))
 
     -- the stack had no minimum: no history's words
     pub query-lost : (b : Low) → Looked w g b → b ≡ low.Nothing → Does (Query i) s w w (refusedWith s NotActive)
-    query-lost b l f = inactive (Query i) a-query (λ h lent t.
+    query-lost b l f = inactive (Query i) a-query (λ h lent _ t.
         let k = own-of (Query i) s w z o t in
         let x : low.Nothing ≡ low.At (minimum (h .values) i) = sym f ∙ looked-minimum w (h .values) (h .active) i g b l (k .holds) live in
         absurd (let y : _≡_ {A = ℕ} 0 1 = cc in omega arith))
@@ -96,16 +96,16 @@ module _ (s : Session) (w : List ℕ) (i : Position) (z : s .words ≡ 0 → ⊥
     pub query-done : (b : Low) (m : Minimum) → Looked w g b → b ≡ low.At m → Does (Query i) s w w (record { reply = Lowest m; session = s })
     query-done b m l f =
         does-accepted (Query i) s w true (λ _. q .possible g e) refl (due-to (Query i) a-query true)
-        (record { counted = 0; found = m; tells = refl; session = refl; words = refl })
-        (λ h lent t.
+        (record { counted = s .active; found = m; tells = refl; session = refl; unaltered = (refl, refl) })
+        (λ h lent y t.
         let k = own-of (Query i) s w z o t in
         let x : low.At m ≡ low.At (minimum (h .values) i) = sym f ∙ looked-minimum w (h .values) (h .active) i g b l (k .holds) live in
-        let y : m ≡ minimum (h .values) i = cc in
-        (due-none (Query i) a-query h lent t, ap showing y, t))
+        let d : m ≡ minimum (h .values) i = cc in
+        (due-none (Query i) a-query h lent y t, ap showing d, ap (λ (x : Session). x .active) (t .session), k))
 
     -- a count of no active marks: no history's session
     pub close-lost : s .active ≡ 0 → Does (Close i) s w w (refusedWith s NotActive)
-    close-lost f = inactive (Close i) a-close (λ h lent t.
+    close-lost f = inactive (Close i) a-close (λ h lent _ t.
         absurd (none (h .active) (sym (ap (λ (x : Session). x .active) (t .session)) ∙ f) (is-active h lent (own-of (Close i) s w z o t))))
       where
         none : (ps : List Position) → length ps ≡ 0 → among i ps ≡ true → ⊥
@@ -117,60 +117,39 @@ module _ (s : Session) (w : List ℕ) (i : Position) (z : s .words ≡ 0 → ⊥
       same-position : (j : Held) → position after j ≡ position w j
       same-position j = c .kept (16 + 8 * j .0) (λ x. omega arith)
 
-      module _ (h : History) (lent : List ℕ) (t : s ≡ sessionOf h) (k : Keeps h lent w) where
-        here : positionOf w g ≡ i
-        here = λ x. record { 0 = live .here x }
+      keeps : (h : History) (lent : List ℕ) → Keeps h lent w → Keeps (closed h i) lent after
+      keeps h lent k =
+          let here : positionOf w g ≡ i = λ x. record { 0 = live .here x } in
+          record {
+            holds = rw here at (released-holds w after (h .values) (h .active) g c (k .holds) (live .row));
+            rest = λ j m. c .inside j (omega (arith, k .below)) ∙ k .rest j m;
+            below = rw (c .kept 1 (λ x. omega arith)) (k .below);
+            fresh = λ x j l. rw (same-position j)
+                (k .fresh (was-unmarked (h .standing) (eqb (i .0) (presentOf h .0)) x) j (rw (c .kept 0 (λ y. omega arith)) at l));
+          }
 
-        one-less : length (without i (h .active)) + 1 ≡ length (h .active)
-        one-less = rw (sym (k .holds .marks)) (struck-once w i g (k .holds .linked) live)
-
-        -- a Close that leaves the present position unmarked found it so
-        was-unmarked : (b : Bool) (x : Standing) → cond b Closed x ≡ Unmarked → x ≡ Unmarked
-        was-unmarked true x y = cc
-        was-unmarked false x y = y
-
-        keeps : Keeps (closed h i) lent after
-        keeps = record {
-          holds = rw here at (released-holds w after (h .values) (h .active) g c (k .holds) (live .row));
-          rest = λ j m. c .inside j (omega (arith, k .bound)) ∙ k .rest j m;
-          bound = rw (c .kept 1 (λ x. omega arith)) (k .bound);
-          peaked = omega (arith, one-less, k .peaked);
-          limited = k .limited;
-          few = k .few;
-          wide = k .wide;
-          some = λ x. k .some (was-unmarked (eqb (i .0) (presentOf h .0)) (h .standing) x);
-          fresh = λ x j l. rw (same-position j)
-              (k .fresh (was-unmarked (eqb (i .0) (presentOf h .0)) (h .standing) x) j (rw (c .kept 0 (λ y. omega arith)) at l));
-        }
-
-        session-is : sessionAfter s (Close i) (s .active - 1) ≡ sessionOf (closed h i)
-        session-is =
-            ap (λ (x : Session). sessionAfter x (Close i) (x .active - 1)) t
-            ∙ ap (λ (x : ℕ). sessionAfter (sessionOf h) (Close i) x) (omega (arith, one-less))
-
-      pub close-done : Does (Close i) s w after (record { reply = Accepted; session = sessionAfter s (Close i) (s .active - 1) })
+      pub close-done : Does (Close i) s w after (acceptedWith s (s .present) (s .last) (s .active - 1) (nextStanding (s .standing) (eventOf (s .present) (Close i)) .after))
       close-done =
           does-accepted (Close i) s w true (λ _. q .possible g e) (c .long) (due-to (Close i) a-close true)
-          (record { counted = s .active - 1; found = standsAt (s .last) (s .present); tells = refl; session = refl; words = tt })
-          (λ h lent t. (
-            due-none (Close i) a-close h lent t,
+          (record { counted = s .active - 1; found = standsAt (s .last) (s .present); tells = refl; session = refl; unaltered = tt })
+          (λ h lent y t.
+          let k = own-of (Close i) s w z o t in (
+            due-none (Close i) a-close h lent y t,
             refl,
-            record {
-              session = session-is h lent (t .session) (own-of (Close i) s w z o t);
-              own = λ _ _. keeps h lent (t .session) (own-of (Close i) s w z o t);
-            },
+            omega (arith, struck-one i (y .rising) (is-active h lent k), ap (λ (x : Session). x .active) (t .session)),
+            keeps h lent k,
           ))
 
 -- the ways out of a search: a position that no mark can have, and what the table finds
-pub sighted-none : (s : Session) (w : List ℕ) (i : Position) → (0 < i .0 → i .0 ≤ s .present .0 → ⊥) → Sighted s w i found.Nothing
-sighted-none s w i n = record {
+pub seeks-none : (s : Session) (w : List ℕ) (i : Position) → (0 < i .0 → i .0 ≤ s .present .0 → ⊥) → Seeks s w i found.Nothing
+seeks-none s w i n = record {
   sound = λ g e. absurd (let y : _≡_ {A = ℕ} 0 1 = cc in omega arith);
   possible = λ g e. absurd (let y : _≡_ {A = ℕ} 0 1 = cc in omega arith);
   complete = λ e k a b. absurd (n a b);
 }
 
-pub sighted-found : (s : Session) (w : List ℕ) (i : Position) (r : Found) → 0 < i .0 → i .0 ≤ s .present .0 → Sought w i r → Sighted s w i r
-sighted-found s w i r a b q = record {
+pub seeks-found : (s : Session) (w : List ℕ) (i : Position) (r : Found) → 0 < i .0 → i .0 ≤ s .present .0 → Sought w i r → Seeks s w i r
+seeks-found s w i r a b q = record {
   sound = q .sound;
   possible = λ g e. (a, b);
   complete = λ e k _ _. not-among w i r q k e;

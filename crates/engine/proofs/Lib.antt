@@ -1,9 +1,9 @@
-pub mod Steps
-pub mod Ways
+pub mod Doing
 pub mod Openings
 pub mod Valued
 pub mod Marking
 pub mod Asked
+pub mod Instance
 pub mod Theorem
 pub mod Tied
-pub mod Played
+pub mod Examples

@@ -1,4 +1,6 @@
--- The ways out of a Mark, on an area of the opened length.
+-- The ways out of a Mark on an area of the opened length. It is refused by what the standing has against it, or as full: where the session counts K active marks, and where it
+-- counts more than any opening allows, which no history's session does. Else a row is spared, by a rebuild where all are in use, and the present position is appended with
+-- the last value for its minimum. A table that was rebuilt for c marks ends below the words of c + 1, which the history's l has reached.
 use mathlib.Core.Path.{_≡_, refl, sym, ap, _∙_}
 use mathlib.Core.List.{List, [], _∷_, _++_}
 use mathlib.Core.Bool.{Bool, false, cond}
@@ -8,89 +10,106 @@ use native.Mathlib.Omega.{arith}
 use lib.ListN.{length, length-append}
 use borrow.Author.Tests.{eq-eqb, ne-eqb}
 use Rattle.history.specs.declared.Standing.{Standing}
-use Rattle.history.specs.declared.Standing.the-variants.{Unmarked}
+use Rattle.history.specs.declared.Standing.the-variants.{Unmarked, Marked}
 use Rattle.history.specs.declared.Session.{Session}
 use Rattle.history.specs.declared.Command.the-variants.{Mark}
+use Rattle.history.specs.declared.Event.{Event}
+use Rattle.history.specs.declared.Due.{Due}
+use Rattle.history.specs.declared.Due.the-variants.{Nothing, Refused}
+use Rattle.history.specs.declared.Transition.{Transition}
 use Rattle.history.specs.declared.Refusal.{Refusal}
 use Rattle.history.specs.declared.Refusal.the-variants.{Full}
-use Rattle.history.specs.declared.Reply.the-variants.{Accepted}
 use Rattle.history.specs.Minima.{standsAt}
-use Rattle.history.specs.Replies.{numberOf}
+use Rattle.history.specs.Standings.{allowing, nextStanding}
 use Rattle.history.specs.Refusals.{markRefusal, refusal}
-use Rattle.history.specs.Histories.{History, presentOf, sessionOf, isActive, marked}
+use Rattle.history.specs.Histories.{History, presentOf, sessionOf, isActive, marked, bookkeeper}
+use Rattle.history.specs.Sound.{Sound}
 use Rattle.history.proofs.Lowest.{minimum-new}
-use Rattle.layout.specs.Layout.{rows, capacity, height}
+use Rattle.history.proofs.Steps.{refusal-own, unmarked-only, marked-after}
+use Rattle.runs.specs.Runs.{AsLent}
+use Rattle.layout.specs.Layout.{rows, capacity}
 use Rattle.table.specs.Marks.{Above}
 use Rattle.ranges.specs.Holding.{Holds}
 use Rattle.ranges.specs.Calls.{Added, Appended, Compacted, Spared}
-use Rattle.engine.specs.Promises.{AsLent, sessionAfter}
 use Rattle.engine.specs.Keeping.{Keeps}
-use Rattle.engine.specs.Calls.{Does, refusedWith}
-use Rattle.engine.proofs.Steps.{refusal-own}
-use Rattle.engine.proofs.Ways.{does-due, does-full, does-accepted, own-of}
+use Rattle.engine.specs.Contracts.{Does}
+use Rattle.engine.specs.Private.{refusedWith, acceptedWith}
+use Rattle.engine.proofs.Doing.{does-due, does-full, does-accepted, own-of}
+
+-- a transition with nothing due allows what comes after it
+pub allowed : {t u : Transition} → t ≡ u → t .due ≡ Nothing → u ≡ allowing (t .after)
+allowed {t} e d = sym e ∙ (λ i. record { due = d i; after = t .after })
 
 module _ (s : Session) (w : List ℕ) (z : s .words ≡ 0 → ⊥) (o : length w ≡ s .words) where
-  -- what is due to a Mark goes by the standing
-  due-by : (k : Standing) → s .standing ≡ k → (b : Bool) → refusal s (length w) b Mark ≡ markRefusal s k
-  due-by k e b = refusal-own s (length w) b Mark z o ∙ ap (markRefusal s) e
+  -- what is due to a Mark goes by what the standing has against it
+  due-by : (d : Due) → nextStanding (s .standing) Event.Mark .due ≡ d → (b : Bool) → refusal s (length w) b Mark ≡ markRefusal s d
+  due-by d e b = refusal-own s (length w) b Mark z o ∙ ap (markRefusal s) e
 
   -- 7, 8 and 9
-  pub mark-standing : (k : Standing) (r : Refusal) → s .standing ≡ k → markRefusal s k ≡ numberOf r → Does Mark s w w (refusedWith s r)
-  mark-standing k r e n = does-due Mark s w r (λ b. due-by k e b ∙ n)
+  pub mark-refused : (why : Refusal) → nextStanding (s .standing) Event.Mark .due ≡ Refused why → Does Mark s w w (refusedWith s why)
+  mark-refused why e = does-due Mark s w why (due-by (Refused why) e)
 
-  module _ (u : s .standing ≡ Unmarked) where
+  module _ (after-standing : Standing) (u : nextStanding (s .standing) Event.Mark ≡ allowing after-standing) where
+    free : nextStanding (s .standing) Event.Mark .due ≡ Nothing
+    free = ap (λ (x : Transition). x .due) u
+
     -- 10
     pub mark-full : s .active ≡ s .limit → Does Mark s w w (refusedWith s Full)
-    mark-full e = mark-standing Unmarked Full u (rw (eq-eqb (s .active) (s .limit) e))
+    mark-full e = does-due Mark s w Full (λ b. due-by Nothing free b ∙ rw (eq-eqb (s .active) (s .limit) e))
 
     none-due : (s .active ≡ s .limit → ⊥) → (b : Bool) → refusal s (length w) b Mark ≡ 0
-    none-due n b = due-by Unmarked u b ∙ ap (λ (t : Bool). cond t 10 0) (ne-eqb (s .active) (s .limit) n)
+    none-due n b = due-by Nothing free b ∙ ap (λ (t : Bool). cond t 10 0) (ne-eqb (s .active) (s .limit) n)
 
     -- more marks than any opening allows: no history's session
     pub mark-foreign : (s .active ≡ s .limit → ⊥) → 4096 ≤ s .active → Does Mark s w w (refusedWith s Full)
-    mark-foreign n f = does-full s w (none-due n false) (λ h lent r.
-        let k = own-of Mark s w z o r in
-        omega (arith, n, k .peaked, k .limited, k .few, ap (λ (x : Session). x .active) (r .session), ap (λ (x : Session). x .limit) (r .session)))
+    mark-foreign n f = does-full s w (none-due n false) (λ h lent q r.
+        omega (arith, n, q .peaked, q .limited, q .few, ap (λ (x : Session). x .active) (r .session), ap (λ (x : Session). x .limit) (r .session)))
 
     -- a row is spared, and the present position is appended
     module _ (v after : List ℕ) (n : s .active ≡ s .limit → ⊥) (f : s .active < 4096) (q : Spared w v (s .active))
         (a : Appended v after (s .present) (standsAt (s .last) (s .present))) where
-      module _ (h : History) (lent : List ℕ) (e : s ≡ sessionOf h) (k : Keeps h lent w) where
+      module _ (h : History) (lent : List ℕ) (y : Sound h) (e : s ≡ sessionOf h) (k : Keeps h lent w) where
         active-is : s .active ≡ length (h .active)
         active-is = ap (λ (x : Session). x .active) e
 
         below-limit : length (h .active) < h .limit
-        below-limit = omega (arith, n, active-is, ap (λ (x : Session). x .limit) e, k .peaked, k .limited)
+        below-limit = omega (arith, n, active-is, ap (λ (x : Session). x .limit) e, y .peaked, y .limited)
+
+        free-of : nextStanding (h .standing) Event.Mark .due ≡ Nothing
+        free-of = ap (λ (x : Session). nextStanding (x .standing) Event.Mark .due) (sym e) ∙ free
 
         unmarked : h .standing ≡ Unmarked
-        unmarked = sym (ap (λ (x : Session). x .standing) e) ∙ u
+        unmarked = unmarked-only (h .standing) free-of
 
         one-more : length (h .active ++ (presentOf h ∷ [])) ≡ length (h .active) + 1
         one-more = length-append (h .active) (presentOf h ∷ [])
 
+        wide : 512 + 64 * h .limit ≤ h .words
+        wide = y .wide (λ x. z (ap (λ (x : Session). x .words) e ∙ x))
+
         spared : (rows v < capacity v) × ((v ≡ w) ⊎ Compacted w v (h .values) (h .active))
         spared = q .spare (h .values) (h .active) (k .holds) (sym active-is)
-            (record { some = omega arith; few = omega arith; wide = omega (arith, active-is, below-limit, k .wide, ap (λ (x : Session). x .words) e) })
+            (record { some = omega arith; few = omega arith; wide = omega (arith, active-is, below-limit, wide, ap (λ (x : Session). x .words) e) })
 
         -- what the words are when the row is spared
         record Ready : Type 0 where
           holds : Holds v (h .values) (h .active)
           fresh : Above v (presentOf h)
-          bound : 16 + 8 * capacity v ≤ 512 + 64 * marked h .peak
-          rest : AsLent (marked h .peak) lent v
+          below : 16 + 8 * capacity v ≤ bookkeeper .bound (marked h)
+          rest : AsLent (bookkeeper .bound (marked h)) lent v
 
         ready : Ready
         ready = ⊎-elim
             (λ (x : v ≡ w). record {
               holds = rw x (k .holds);
               fresh = rw x (k .fresh unmarked);
-              bound = rw x (omega (arith, k .bound));
+              below = rw x (omega (arith, k .below));
               rest = rw x (λ i m. k .rest i (omega arith));
             })
             (λ (x : Compacted w v (h .values) (h .active)). record {
               holds = x .holds;
               fresh = x .under (presentOf h) (k .fresh unmarked);
-              bound = omega (arith, x .size, one-more);
+              below = omega (arith, x .size, one-more);
               rest = λ i m. x .kept i (omega (arith, one-more)) ∙ k .rest i (omega arith);
             })
             (spared .1)
@@ -103,44 +122,38 @@ module _ (s : Session) (w : List ℕ) (z : s .words ≡ 0 → ⊥) (o : length w
         held =
             let p = ap (λ (x : Session). x .present) e in
             rw p at
-            (a .holds (h .values) (h .active) (ready .holds) (spared .0) (rw p (ready .fresh)) (rw p (k .some unmarked)) (rw p (omega arith))
+            (a .holds (h .values) (h .active) (ready .holds) (spared .0) (rw p (ready .fresh)) (rw p (y .some unmarked)) (rw p (omega arith))
             (rw (p, ap (λ (x : Session). x .last) e) (minimum-new (h .values))))
 
         keeps : Keeps (marked h) lent after
         keeps = record {
           holds = held;
           rest = λ i m.
-              added .kept i (λ x. omega arith) (λ x. omega (arith, ready .bound, spared .0)) (λ x. omega (arith, ready .bound, spared .0)) (λ x. omega (arith, ready .bound, spared .0))
-              (λ b l x. omega (arith, ready .bound))
+              added .kept i (λ x. omega arith) (λ x. omega (arith, ready .below, spared .0)) (λ x. omega (arith, ready .below, spared .0)) (λ x. omega (arith, ready .below, spared .0))
+              (λ b l x. omega (arith, ready .below))
               (record {
                 height = λ x. omega arith;
                 entries = λ t y l. let c : t < capacity v = omega (arith, held .linked .fits .high, held .linked .fits .full, added .size) in
-                    ((λ x. omega (arith, ready .bound)), (λ x. omega (arith, ready .bound)), (λ x. omega (arith, ready .bound)));
+                    ((λ x. omega (arith, ready .below)), (λ x. omega (arith, ready .below)), (λ x. omega (arith, ready .below)));
               })
               ∙ ready .rest i m;
-          bound = rw (added .size) (ready .bound);
-          peaked = omega arith;
-          limited = omega (arith, one-more, below-limit, k .limited);
-          few = k .few;
-          wide = k .wide;
-          some = λ x. absurd (let y : _≡_ {A = ℕ} 0 1 = cc in omega arith);
-          fresh = λ x. absurd (let y : _≡_ {A = ℕ} 0 1 = cc in omega arith);
+          below = rw (added .size) (ready .below);
+          fresh = λ x. absurd (let m = marked-after (h .standing) free-of in let y : _≡_ {A = ℕ} 0 1 = cc in omega arith);
         }
 
-        session-is : sessionAfter s Mark (s .active + 1) ≡ sessionOf (marked h)
-        session-is =
-            ap (λ (x : Session). sessionAfter x Mark (x .active + 1)) e
-            ∙ ap (λ (x : ℕ). sessionAfter (sessionOf h) Mark x) (sym one-more)
-
-      pub mark-done : Does Mark s w after (record { reply = Accepted; session = sessionAfter s Mark (s .active + 1) })
+      pub mark-done : Does Mark s w after (acceptedWith s (s .present) (s .last) (s .active + 1) after-standing)
       mark-done =
           does-accepted Mark s w false (λ _. tt) (a .long ∙ q .long) (none-due n false)
-          (record { counted = s .active + 1; found = standsAt (s .last) (s .present); tells = refl; session = refl; words = tt })
-          (λ h lent r. (
+          (record {
+            counted = s .active + 1;
+            found = standsAt (s .last) (s .present);
+            tells = refl;
+            session = rw u;
+            unaltered = tt;
+          })
+          (λ h lent y r. (
             none-due n (isActive h Mark),
             refl,
-            record {
-              session = session-is h lent (r .session) (own-of Mark s w z o r);
-              own = λ _ _. keeps h lent (r .session) (own-of Mark s w z o r);
-            },
+            omega (arith, one-more h lent y (r .session) (own-of Mark s w z o r), ap (λ (x : Session). x .active) (r .session)),
+            keeps h lent y (r .session) (own-of Mark s w z o r),
           ))

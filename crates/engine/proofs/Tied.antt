@@ -10,8 +10,12 @@ use Rattle.history.specs.declared.Session.{Session}
 use Rattle.history.specs.declared.Command.{Command}
 use Rattle.history.specs.declared.Command.the-variants.{Value, Mark, Query, Close}
 use Rattle.history.specs.declared.Answer.{Answer}
-use Rattle.engine.specs.Calls.{Opens, Does}
-use Rattle.engine.specs.Demand.{OpeningSays, CallSays, Demand3, Demand1, OnlyFours}
+use Rattle.history.specs.Histories.{bookkeeper}
+use Rattle.runs.specs.Runs.{Call}
+use Rattle.engine.specs.Demand.{OpeningSays, CallSays, Demand3}
+use Rattle.engine.specs.Promises.{Demand1}
+use Rattle.engine.specs.Consequences.{OnlyFours}
+use Rattle.engine.specs.Contracts.{Opens, Does, Answered, Done}
 use Rattle.engine.proofs.Theorem as theorem
 use Rattle.engine.proofs.open.Reads as open-reads
 use Rattle.engine.proofs.value.Reads as value-reads
@@ -35,8 +39,9 @@ CalledFor s (Query i) lent left r =
 CalledFor s (Close i) lent left r =
     (κs : Lfts 1) × (x : RefT (List ℕ)) × close-reads.Learnt κs (s, (at-last x lent, (i, tt))) r (s, (at-last x left, (i, tt)))
 
+-- such a call, with what its answer tells and the session that it returns
 abbrev pub Called : CallSays
-Called s c = CalledFor s (c .command) (c .lent) (c .left) (c .answer)
+Called = Answered CalledFor
 
 opens : (first left : List ℕ) (o : Answer) → Opened first left o → Opens first left o
 opens first left o (κs, x, d) = d
@@ -47,14 +52,17 @@ does s Mark lent left r (κs, x, d) = d
 does s (Query i) lent left r (κs, x, d, e) = rw e d
 does s (Close i) lent left r (κs, x, d) = d
 
+done : (s : Session) (c : Call bookkeeper) → Called s c → Done s c
+done s c d = (d .0, does s (c .command) (c .lent) (c .left) (d .0) (d .1), d .2, d .3)
+
 -- DEMAND 1, with what the checker shows of every function: it stays in bounds, and it ends
 pub demand-1 : Demand1 Opened Called
-demand-1 = theorem.demand-1 Opened Called opens (λ s c. does s (c .command) (c .lent) (c .left) (c .answer))
+demand-1 = theorem.demand-1 Opened Called opens done
 
 -- DEMAND 3, and demand 2 in it
 pub demand-3 : Demand3 Opened Called
-demand-3 = theorem.demand-3 Opened Called opens (λ s c. does s (c .command) (c .lent) (c .left) (c .answer))
+demand-3 = theorem.demand-3 Opened Called opens done
 
 -- and what follows a refused opening
 pub only-fours : OnlyFours Opened Called
-only-fours = theorem.only-fours Opened Called opens (λ s c. does s (c .command) (c .lent) (c .left) (c .answer))
+only-fours = theorem.only-fours Opened Called opens done

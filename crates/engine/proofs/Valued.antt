@@ -1,5 +1,6 @@
--- The ways out of a Value.
-use mathlib.Core.Path.{_≡_, refl, sym, ap, _∙_}
+-- The ways out of a Value on an area of the opened length. At the last position it is refused with 6. Else each mark's minimum is lowered by it, as the history's is, in words
+-- of the stack alone: the rows stay, and so do the words behind the table. The next position comes after every row's, which were none after the present one.
+use mathlib.Core.Path.{_≡_, refl, ap, _∙_}
 use mathlib.Core.List.{List, [], _∷_}
 use mathlib.Core.Bool.{Bool, false}
 use Prim.Native.Nat.{ℕ, _+_, _*_, _<_}
@@ -7,23 +8,22 @@ use native.Mathlib.Omega.{arith}
 use lib.IntN.{ℤ}
 use lib.ListN.{length, getD, length-append}
 use borrow.Author.Tests.{eq-eqb, ne-eqb}
-use Rattle.history.specs.declared.Standing.the-variants.{Unmarked}
 use Rattle.history.specs.declared.Session.{Session}
 use Rattle.history.specs.declared.Command.the-variants.{Value}
+use Rattle.history.specs.declared.Event.{Event}
 use Rattle.history.specs.declared.Refusal.the-variants.{LastPosition}
-use Rattle.history.specs.declared.Reply.the-variants.{Accepted}
 use Rattle.history.specs.Minima.{standsAt, next}
+use Rattle.history.specs.Standings.{nextStanding}
 use Rattle.history.specs.Refusals.{refusal}
 use Rattle.history.specs.Histories.{History, sessionOf, isActive, valued}
-use Rattle.history.proofs.Lowest.{lastOf-more}
+use Rattle.history.proofs.Steps.{refusal-own}
 use Rattle.layout.specs.Layout.{capacity}
 use Rattle.stack.specs.Calls.{Lowered}
 use Rattle.ranges.proofs.Upkeep.{lowered-rows, lowered-position, lowered-holds}
-use Rattle.engine.specs.Promises.{sessionAfter}
 use Rattle.engine.specs.Keeping.{Keeps}
-use Rattle.engine.specs.Calls.{Does, refusedWith}
-use Rattle.engine.proofs.Steps.{refusal-own}
-use Rattle.engine.proofs.Ways.{does-due, does-accepted, own-of}
+use Rattle.engine.specs.Contracts.{Does}
+use Rattle.engine.specs.Private.{refusedWith, acceptedWith}
+use Rattle.engine.proofs.Doing.{does-due, does-accepted, own-of}
 
 module _ (s : Session) (w : List ℕ) (v : ℤ) (z : s .words ≡ 0 → ⊥) (o : length w ≡ s .words) where
   -- no position is left
@@ -39,45 +39,24 @@ module _ (s : Session) (w : List ℕ) (v : ℤ) (z : s .words ≡ 0 → ⊥) (o 
         → getD after i 0 ≡ getD w i 0
     beside i m e = q .kept i (record { height = m; entries = λ t a b. e t b })
 
-    module _ (h : History) (lent : List ℕ) (e : s ≡ sessionOf h) (k : Keeps h lent w) where
-      present-is : s .present .0 ≡ length (h .values)
-      present-is = ap (λ (x : Session). x .present .0) e
+    keeps : (h : History) (lent : List ℕ) → s ≡ sessionOf h → Keeps h lent w → Keeps (valued h v) lent after
+    keeps h lent e k =
+        let p : s .present .0 ≡ length (h .values) = ap (λ (x : Session). x .present .0) e in
+        record {
+          holds = lowered-holds w after (h .values) (h .active) v
+              (rw (ap (λ (x : ℕ). standsAt v (record { 0 = x + 1 })) p) at q) (k .holds) (omega (arith, n, p, k .holds .short));
+          rest = λ i m. beside i (λ x. omega arith) (λ t b. ((λ x. omega (arith, k .below)), (λ x. omega (arith, k .below)), (λ x. omega (arith, k .below)))) ∙ k .rest i m;
+          below = rw (beside 1 (λ x. omega arith) (λ t b. ((λ x. omega arith), (λ x. omega arith), (λ x. omega arith)))) (k .below);
+          fresh = λ x g l. rw (lowered-position q g) (omega (arith, length-append (h .values) (v ∷ []), k .holds .before g (rw (lowered-rows q) at l)));
+        }
 
-      keeps : Keeps (valued h v) lent after
-      keeps = record {
-        holds = lowered-holds w after (h .values) (h .active) v
-            (rw (ap (λ (x : ℕ). standsAt v (record { 0 = x + 1 })) present-is) at q) (k .holds) (omega (arith, n, present-is, k .holds .short));
-        rest = λ i m. beside i (λ x. omega arith) (λ t b. ((λ x. omega (arith, k .bound)), (λ x. omega (arith, k .bound)), (λ x. omega (arith, k .bound)))) ∙ k .rest i m;
-        bound = rw (beside 1 (λ x. omega arith) (λ t b. ((λ x. omega arith), (λ x. omega arith), (λ x. omega arith)))) (k .bound);
-        peaked = k .peaked;
-        limited = k .limited;
-        few = k .few;
-        wide = k .wide;
-        some = λ x. omega (arith, length-append (h .values) (v ∷ []));
-        fresh = λ x g l. rw (lowered-position q g) (omega (arith, length-append (h .values) (v ∷ []), k .holds .before g (rw (lowered-rows q) at l)));
-      }
-
-      session-is : sessionAfter s (Value v) (s .active) ≡ sessionOf (valued h v)
-      session-is =
-          ap (λ (x : Session). sessionAfter x (Value v) (x .active)) e
-          ∙ (λ i. record {
-            words = h .words;
-            limit = h .limit;
-            present = record { 0 = sym (length-append (h .values) (v ∷ [])) i };
-            last = sym (lastOf-more (h .values) v) i;
-            active = length (h .active);
-            standing = Unmarked;
-          })
-
-    pub value-done : Does (Value v) s w after (record { reply = Accepted; session = sessionAfter s (Value v) (s .active) })
+    pub value-done : Does (Value v) s w after (acceptedWith s (next (s .present)) v (s .active) (nextStanding (s .standing) Event.Value .after))
     value-done =
         does-accepted (Value v) s w false (λ _. tt) (q .long) (none-due false)
-        (record { counted = s .active; found = standsAt v (s .present); tells = refl; session = refl; words = tt })
-        (λ h lent r. (
+        (record { counted = s .active; found = standsAt v (s .present); tells = refl; session = refl; unaltered = tt })
+        (λ h lent _ r. (
           none-due (isActive h (Value v)),
           refl,
-          record {
-            session = session-is h lent (r .session) (own-of (Value v) s w z o r);
-            own = λ _ _. keeps h lent (r .session) (own-of (Value v) s w z o r);
-          },
+          ap (λ (x : Session). x .active) (r .session),
+          keeps h lent (r .session) (own-of (Value v) s w z o r),
         ))

@@ -1,5 +1,6 @@
-pub mod Promises
-pub mod Keeping
-pub mod Calls
 pub mod Demand
-pub mod Playing
+pub mod Promises
+pub mod Consequences
+pub mod Keeping
+pub mod Contracts
+pub mod Private

@@ -4,12 +4,16 @@ ghost use mathlib.Core.Path.{_≡_};
 ghost use Prim.Native.Nat.{_<_};
 ghost use lib.ListN.{length};
 ghost use Rattle.history.specs.declared.Command.the-variants.{Value, Mark, Query, Close};
-ghost use Rattle.history.specs.declared.Standing.the-variants.{Unmarked};
+ghost use Rattle.history.specs.declared.Event.{Event};
 ghost use Rattle.history.specs.Minima.{standsAt};
-ghost use Rattle.history.specs.Histories.{limitOf, closedAt};
-ghost use Rattle.engine.specs.Calls.{Opens, Does, Sighted, refusedWith};
+ghost use Rattle.history.specs.Standings.{allowing, nextStanding};
+ghost use Rattle.history.specs.Histories.{limitOf};
+ghost use Rattle.engine.specs.Contracts.{Opens, Does};
+ghost use Rattle.engine.specs.Private.{refusedWith, acceptedWith, Seeks};
 use history::Answer;
 use history::Command;
+use history::Due;
+use history::Event;
 use history::Minimum;
 use history::Position;
 use history::Refusal;
@@ -40,6 +44,22 @@ fn refuse(s: Session, why: Refusal) -> Answer
     Answer {
         reply: Reply::Refused(why),
         session: s,
+    }
+}
+
+fn accept(s: Session, present: Position, last: i32, active: usize, standing: Standing) -> Answer
+    ensures { λ r. ⌜ r ≡ acceptedWith s present last active standing ⌝ }
+{
+    Answer {
+        reply: Reply::Accepted,
+        session: Session {
+            words: s.words,
+            limit: s.limit,
+            present,
+            last,
+            active,
+            standing,
+        },
     }
 }
 
@@ -98,17 +118,10 @@ pub fn value(s: Session, area: &mut [u64], v: i32) -> Answer
             place: next,
         },
     );
-    Answer {
-        reply: Reply::Accepted,
-        session: Session {
-            words,
-            limit: s.limit,
-            present: next,
-            last: v,
-            active: s.active,
-            standing: Standing::Unmarked,
-        },
-    }
+    let standing = s.standing;
+    let transition = history::next_standing(standing, Event::Value);
+    let after = transition.after;
+    accept(s, next, v, s.active, after)
 }
 
 // The range minimum of a mark at the present position: the last value, there.
@@ -122,9 +135,9 @@ fn at_present(s: Session) -> Minimum
     }
 }
 
-// A Mark of a present position that is neither marked nor closed. Nothing is written before it is known to be accepted.
-fn mark_unmarked(s: Session, area: &mut [u64]) -> Answer
-    requires { ⌜ (s .words ≡ 0 → ⊥) × (length (now area) ≡ s .words) × (s .standing ≡ Unmarked) ⌝ }
+// A Mark that the standing has nothing against. Nothing is written before it is known to be accepted.
+fn mark_allowed(s: Session, area: &mut [u64], after: Standing) -> Answer
+    requires { ⌜ (s .words ≡ 0 → ⊥) × (length (now area) ≡ s .words) × (nextStanding (s .standing) Event.Mark ≡ allowing after) ⌝ }
     ensures { λ r. ⌜ Does Mark s (now (area .entry)) (now (area .exit)) r ⌝ }
 {
     let active = s.active;
@@ -137,17 +150,7 @@ fn mark_unmarked(s: Session, area: &mut [u64]) -> Answer
     let present = s.present;
     ranges::make_room(area, active);
     ranges::append(area, present, at_present(s));
-    Answer {
-        reply: Reply::Accepted,
-        session: Session {
-            words: s.words,
-            limit: s.limit,
-            present,
-            last: s.last,
-            active: active + 1,
-            standing: Standing::Marked,
-        },
-    }
+    accept(s, present, s.last, active + 1, after)
 }
 
 // The present position becomes an active mark.
@@ -162,17 +165,18 @@ pub fn mark(s: Session, area: &mut [u64]) -> Answer
         return refuse(s, Refusal::OtherLength);
     }
     let standing = s.standing;
-    match standing {
-        Standing::None => refuse(s, Refusal::NothingToMark),
-        Standing::Unmarked => mark_unmarked(s, area),
-        Standing::Marked => refuse(s, Refusal::AlreadyMarked),
-        Standing::Closed => refuse(s, Refusal::AlreadyClosed),
+    let transition = history::next_standing(standing, Event::Mark);
+    let due = transition.due;
+    let after = transition.after;
+    match due {
+        Due::Nothing => mark_allowed(s, area, after),
+        Due::Refused(why) => refuse(s, why),
     }
 }
 
 // The row of the active mark at a position, which is none before the first or after the present one.
 fn seek(s: Session, area: &[u64], i: Position) -> Found
-    ensures { λ r. ⌜ Sighted s (now (area .entry)) i r ⌝ }
+    ensures { λ r. ⌜ Seeks s (now (area .entry)) i r ⌝ }
 {
     let present = s.present;
     if i.0 == 0 {
@@ -209,17 +213,6 @@ pub fn query(s: Session, area: &[u64], i: Position) -> Answer
     }
 }
 
-// The standing after a Close of position i.
-fn closed_at(s: Session, i: Position) -> Standing
-    ensures { λ r. ⌜ r ≡ closedAt (s .present) i (s .standing) ⌝ }
-{
-    let present = s.present;
-    if i.0 == present.0 {
-        return Standing::Closed;
-    }
-    s.standing
-}
-
 // An active mark is forgotten.
 pub fn close(s: Session, area: &mut [u64], i: Position) -> Answer
     ensures { λ r. ⌜ Does (Close i) s (now (area .entry)) (now (area .exit)) r ⌝ }
@@ -240,18 +233,11 @@ pub fn close(s: Session, area: &mut [u64], i: Position) -> Answer
         return refuse(s, Refusal::NotActive);
     }
     let present = s.present;
+    let standing = s.standing;
+    let transition = history::next_standing(standing, history::close_event(present, i));
+    let after = transition.after;
     table::release(area, held);
-    Answer {
-        reply: Reply::Accepted,
-        session: Session {
-            words,
-            limit: s.limit,
-            present,
-            last: s.last,
-            active: active - 1,
-            standing: closed_at(s, i),
-        },
-    }
+    accept(s, present, s.last, active - 1, after)
 }
 
 // Any command.

@@ -1,4 +1,7 @@
 pub mod Order
 pub mod Choice
 pub mod Lowest
+pub mod Steps
+pub mod Soundness
+pub mod Following
 pub mod Worked

@@ -8,7 +8,8 @@ use Rattle.history.specs.declared.Command.{Command}
 use Rattle.history.specs.declared.Command.the-variants.{Value, Mark, Query, Close}
 use Rattle.history.specs.Minima.{standsAt}
 use Rattle.history.specs.Replies.{Told, numbered, accepted, showing}
-use Rattle.history.specs.Histories.{History, step, opening}
+use Rattle.history.specs.Histories.{opening, bookkeeper}
+use Rattle.runs.specs.Lists.{repliesOf}
 
 -- an opening of so many words, what it is told, the limit K, the commands, each lent as many words, and what each is told
 pub record Example : Type 0 where
@@ -18,11 +19,6 @@ pub record Example : Type 0 where
   pub commands : List Command
   pub tells : List Told
 
--- what the bookkeeper tells a list of commands, each lent n words
-abbrev pub repliesOf : History → ℕ → List Command → List Told
-repliesOf h n [] = []
-repliesOf h n (c ∷ cs) = step h n c .tells ∷ repliesOf (step h n c .history) n cs
-
 -- what the bookkeeper makes of an example's opening and commands
 abbrev pub worked : Example → Example
 worked e = record {
@@ -30,7 +26,7 @@ worked e = record {
   opens = opening (e .words) .tells;
   limit = opening (e .words) .history .limit;
   commands = e .commands;
-  tells = repliesOf (opening (e .words) .history) (e .words) (e .commands);
+  tells = repliesOf bookkeeper (opening (e .words) .history) (e .words) (e .commands);
 }
 
 -- each example of a list is as the bookkeeper makes it
@@ -45,8 +41,8 @@ abbrev opened : ℕ → Told → ℕ → Example
 opened n t k = record { words = n; opens = t; limit = k; commands = []; tells = [] }
 
 -- commands after an opening of 576 words
-abbrev played : List Command → List Told → Example
-played cs ts = record { words = 576; opens = accepted; limit = 1; commands = cs; tells = ts }
+abbrev commanded : List Command → List Told → Example
+commanded cs ts = record { words = 576; opens = accepted; limit = 1; commands = cs; tells = ts }
 
 abbrev pub examples : List Example
 examples =
@@ -60,26 +56,26 @@ examples =
     ∷ opened 262656 accepted 4096
     ∷ opened 262720 accepted 4096
     -- "First command Mark: 7. First command Query 0: 11."
-    ∷ played (Mark ∷ []) (numbered 7 ∷ [])
-    ∷ played (Query (at 0) ∷ []) (numbered 11 ∷ [])
+    ∷ commanded (Mark ∷ []) (numbered 7 ∷ [])
+    ∷ commanded (Query (at 0) ∷ []) (numbered 11 ∷ [])
     -- "V 5, M, Q 1: dip 5 at 1."
-    ∷ played (Value (pos 5) ∷ Mark ∷ Query (at 1) ∷ []) (accepted ∷ accepted ∷ showing (standsAt (pos 5) (at 1)) ∷ [])
+    ∷ commanded (Value (pos 5) ∷ Mark ∷ Query (at 1) ∷ []) (accepted ∷ accepted ∷ showing (standsAt (pos 5) (at 1)) ∷ [])
     -- "V 5, M, V 5, Q 1: dip 5 at 2."
-    ∷ played (Value (pos 5) ∷ Mark ∷ Value (pos 5) ∷ Query (at 1) ∷ []) (accepted ∷ accepted ∷ accepted ∷ showing (standsAt (pos 5) (at 2)) ∷ [])
+    ∷ commanded (Value (pos 5) ∷ Mark ∷ Value (pos 5) ∷ Query (at 1) ∷ []) (accepted ∷ accepted ∷ accepted ∷ showing (standsAt (pos 5) (at 2)) ∷ [])
     -- "V 5, M, V 6, Q 1: dip 5 at 1."
-    ∷ played (Value (pos 5) ∷ Mark ∷ Value (pos 6) ∷ Query (at 1) ∷ []) (accepted ∷ accepted ∷ accepted ∷ showing (standsAt (pos 5) (at 1)) ∷ [])
+    ∷ commanded (Value (pos 5) ∷ Mark ∷ Value (pos 6) ∷ Query (at 1) ∷ []) (accepted ∷ accepted ∷ accepted ∷ showing (standsAt (pos 5) (at 1)) ∷ [])
     -- "V −2,147,483,648, M, V 2,147,483,647, Q 1: dip −2,147,483,648 at 1." The value −n − 1 is `negsuc n`
-    ∷ played (Value (negsuc 2147483647) ∷ Mark ∷ Value (pos 2147483647) ∷ Query (at 1) ∷ [])
+    ∷ commanded (Value (negsuc 2147483647) ∷ Mark ∷ Value (pos 2147483647) ∷ Query (at 1) ∷ [])
     (accepted ∷ accepted ∷ accepted ∷ showing (standsAt (negsuc 2147483647) (at 1)) ∷ [])
     -- "V 2,147,483,647, M, Q 1: dip 2,147,483,647 at 1."
-    ∷ played (Value (pos 2147483647) ∷ Mark ∷ Query (at 1) ∷ []) (accepted ∷ accepted ∷ showing (standsAt (pos 2147483647) (at 1)) ∷ [])
+    ∷ commanded (Value (pos 2147483647) ∷ Mark ∷ Query (at 1) ∷ []) (accepted ∷ accepted ∷ showing (standsAt (pos 2147483647) (at 1)) ∷ [])
     -- "V 1, M, M: the second Mark gets 8."
-    ∷ played (Value (pos 1) ∷ Mark ∷ Mark ∷ []) (accepted ∷ accepted ∷ numbered 8 ∷ [])
+    ∷ commanded (Value (pos 1) ∷ Mark ∷ Mark ∷ []) (accepted ∷ accepted ∷ numbered 8 ∷ [])
     -- "V 1, M, C 1, M: 9, though nothing is active."
-    ∷ played (Value (pos 1) ∷ Mark ∷ Close (at 1) ∷ Mark ∷ []) (accepted ∷ accepted ∷ accepted ∷ numbered 9 ∷ [])
+    ∷ commanded (Value (pos 1) ∷ Mark ∷ Close (at 1) ∷ Mark ∷ []) (accepted ∷ accepted ∷ accepted ∷ numbered 9 ∷ [])
     -- "V 1, M, V 2, M: 10."
-    ∷ played (Value (pos 1) ∷ Mark ∷ Value (pos 2) ∷ Mark ∷ []) (accepted ∷ accepted ∷ accepted ∷ numbered 10 ∷ [])
+    ∷ commanded (Value (pos 1) ∷ Mark ∷ Value (pos 2) ∷ Mark ∷ []) (accepted ∷ accepted ∷ accepted ∷ numbered 10 ∷ [])
     -- "V 1, M, V 2, C 1, M: accepted, and Q 2 gives 2 at 2."
-    ∷ played (Value (pos 1) ∷ Mark ∷ Value (pos 2) ∷ Close (at 1) ∷ Mark ∷ Query (at 2) ∷ [])
+    ∷ commanded (Value (pos 1) ∷ Mark ∷ Value (pos 2) ∷ Close (at 1) ∷ Mark ∷ Query (at 2) ∷ [])
     (accepted ∷ accepted ∷ accepted ∷ accepted ∷ accepted ∷ showing (standsAt (pos 2) (at 2)) ∷ [])
     ∷ []

@@ -1,19 +1,22 @@
 -- Histories of commands: document 01, "The bookkeeper of demand 3", who is told lengths and commands, and nothing of the engine's.
 use mathlib.Core.Bool.{Bool, false, cond, _||_}
 use mathlib.Core.List.{List, [], _∷_, _++_}
-use Prim.Native.Nat.{ℕ, _+_, _-_, _/_, min, max}
+use Prim.Native.Nat.{ℕ, _+_, _*_, _-_, _/_, min, max}
 use lib.IntN.{ℤ}
 use lib.Dec.{ltb, eqb}
 use lib.ListN.{length}
 use Rattle.history.specs.declared.Position.{Position}
 use Rattle.history.specs.declared.Standing.{Standing}
-use Rattle.history.specs.declared.Standing.the-variants.{None, Unmarked, Marked, Closed}
+use Rattle.history.specs.declared.Standing.the-variants.{None}
 use Rattle.history.specs.declared.Session.{Session}
 use Rattle.history.specs.declared.Command.{Command}
 use Rattle.history.specs.declared.Command.the-variants.{Value, Mark, Query, Close}
+use Rattle.history.specs.declared.Event.{Event}
 use Rattle.history.specs.Minima.{presentAt, lastOf, minimum}
 use Rattle.history.specs.Replies.{Told, numbered, accepted, showing}
+use Rattle.history.specs.Standings.{eventOf, nextStanding}
 use Rattle.history.specs.Refusals.{refusal}
+use Rattle.runs.specs.Runs.{Bookkeeper}
 
 -- "On the paper stand N, K, the values in order, the active taps, the standing and l."
 -- `words` is N, `limit` is K, and `peak` is l; the values stand in the order of their positions, the active marks in ascending order
@@ -74,42 +77,28 @@ isActive h Mark = false
 isActive h (Query i) = among i (h .active)
 isActive h (Close i) = among i (h .active)
 
--- "Value: it is written after the others; standing unmarked."
-abbrev pub valued : History → ℤ → History
-valued h v = record {
+-- the paper after an event at the present position. N and K stay
+abbrev pub rewritten : History → Event → List ℤ → List Position → ℕ → History
+rewritten h event values active peak = record {
   words = h .words;
   limit = h .limit;
-  values = h .values ++ (v ∷ []);
-  active = h .active;
-  standing = Unmarked;
-  peak = h .peak;
+  values = values;
+  active = active;
+  standing = nextStanding (h .standing) event .after;
+  peak = peak;
 }
+
+-- "Value: it is written after the others; standing unmarked."
+abbrev pub valued : History → ℤ → History
+valued h v = rewritten h Event.Value (h .values ++ (v ∷ [])) (h .active) (h .peak)
 
 -- "Mark: the present position joins the taps; standing marked. l rises to the number of taps where that is more."
 abbrev pub marked : History → History
-marked h = record {
-  words = h .words;
-  limit = h .limit;
-  values = h .values;
-  active = h .active ++ (presentOf h ∷ []);
-  standing = Marked;
-  peak = max (h .peak) (length (h .active ++ (presentOf h ∷ [])));
-}
+marked h = rewritten h Event.Mark (h .values) (h .active ++ (presentOf h ∷ [])) (max (h .peak) (length (h .active ++ (presentOf h ∷ []))))
 
--- the standing after a Close of position i: "If it is the present position, standing is closed."
-abbrev pub closedAt : Position → Position → Standing → Standing
-closedAt present i standing = cond (eqb (i .0) (present .0)) Closed standing
-
--- "Close: its position is struck from the taps."
+-- "Close: its position is struck from the taps. If it is the present position, standing is closed."
 abbrev pub closed : History → Position → History
-closed h i = record {
-  words = h .words;
-  limit = h .limit;
-  values = h .values;
-  active = without i (h .active);
-  standing = closedAt (presentOf h) i (h .standing);
-  peak = h .peak;
-}
+closed h i = rewritten h (eventOf (presentOf h) (Close i)) (h .values) (without i (h .active)) (h .peak)
 
 -- a command to which no refusal applies "gets reply 0, as follows"
 abbrev pub accept : History → Command → Stepped
@@ -129,3 +118,17 @@ due h lent c = refusal (sessionOf h) lent (isActive h c) c
 
 abbrev pub step : History → ℕ → Command → Stepped
 step h lent c = cond (eqb (due h lent c) 0) (accept h c) (refuse h (due h lent c))
+
+-- the bookkeeper of demand 3, as one of those that runs are held to: "every word from index 512 + 64 × l on is still as it was lent"
+abbrev pub bookkeeper : Bookkeeper
+bookkeeper = record {
+  Command = Command;
+  Told = Told;
+  Session = Session;
+  Paper = History;
+  step = λ h lent c. step h lent c .history;
+  tells = λ h lent c. step h lent c .tells;
+  sessionOf = λ h. sessionOf h;
+  words = λ h. h .words;
+  bound = λ h. 512 + 64 * h .peak;
+}

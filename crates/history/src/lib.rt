@@ -1,7 +1,10 @@
 // The words that the engine and its callers share: positions, commands, the session and the replies.
 // What they mean is said in specs/, from document 01 alone; nothing here knows how the engine keeps its marks.
 ghost use mathlib.Core.Path.{_≡_};
+ghost use Rattle.history.specs.declared.Command.the-variants.{Close};
 ghost use Rattle.history.specs.Replies.{numberOf, told};
+ghost use Rattle.history.specs.Standings as Standings;
+ghost use Rattle.history.specs.Standings.{onMark, nextStanding, eventOf};
 
 // A place in the stream of accepted Values, from 1; 0 stands before the first.
 pub struct Position(pub u32);
@@ -64,6 +67,26 @@ pub struct Answer {
     pub session: Session,
 }
 
+// What a command is to the present position's standing.
+pub enum Event {
+    Value,
+    Mark,
+    CloseOfPresent,
+    Other,
+}
+
+// What the standing has against an event.
+pub enum Due {
+    Nothing,
+    Refused(Refusal),
+}
+
+// What is due to an event, and the standing after its acceptance.
+pub struct Transition {
+    pub due: Due,
+    pub after: Standing,
+}
+
 // Document 01's number of a refusal.
 pub fn number(refusal: Refusal) -> u8
     ensures { λ r. ⌜ r ≡ numberOf refusal ⌝ }
@@ -92,4 +115,55 @@ pub fn reply_number(reply: Reply) -> u8
         Reply::Lowest(_) => 0,
         Reply::Refused(refusal) => number(refusal),
     }
+}
+
+fn allowing(after: Standing) -> Transition
+    ensures { λ r. ⌜ r ≡ Standings.allowing after ⌝ }
+{
+    Transition {
+        due: Due::Nothing,
+        after,
+    }
+}
+
+fn refusing(why: Refusal, standing: Standing) -> Transition
+    ensures { λ r. ⌜ r ≡ Standings.refusing why standing ⌝ }
+{
+    Transition {
+        due: Due::Refused(why),
+        after: standing,
+    }
+}
+
+fn on_mark(standing: Standing) -> Transition
+    ensures { λ r. ⌜ r ≡ onMark standing ⌝ }
+{
+    match standing {
+        Standing::None => refusing(Refusal::NothingToMark, standing),
+        Standing::Unmarked => allowing(Standing::Marked),
+        Standing::Marked => refusing(Refusal::AlreadyMarked, standing),
+        Standing::Closed => refusing(Refusal::AlreadyClosed, standing),
+    }
+}
+
+// The standing's part in every command: nowhere else is a standing chosen or tested, but for the opening's, which is none.
+pub fn next_standing(standing: Standing, event: Event) -> Transition
+    ensures { λ r. ⌜ r ≡ nextStanding standing event ⌝ }
+{
+    match event {
+        Event::Value => allowing(Standing::Unmarked),
+        Event::Mark => on_mark(standing),
+        Event::CloseOfPresent => allowing(Standing::Closed),
+        Event::Other => allowing(standing),
+    }
+}
+
+// What a Close of position i is to the standing.
+pub fn close_event(present: Position, i: Position) -> Event
+    ensures { λ r. ⌜ r ≡ eventOf present (Close i) ⌝ }
+{
+    if i.0 == present.0 {
+        return Event::CloseOfPresent;
+    }
+    Event::Other
 }

@@ -1,10 +1,14 @@
--- `engine::close` meets its contract: one law for each way out.
-use mathlib.Core.Path.{refl}
+-- `engine::close` meets its contract. The tests on the way are those of the refusals in checking order; a mark that is found while the session counts none is no history's. Else the
+-- row is released, which is the law `close-done`, and the standing after is that of a Close of the position that was given.
+use mathlib.Core.Path.{ap, _∙_}
 use native.Mathlib.Omega.{arith}
-use Rattle.engine.proofs.Ways.{does-unopened, does-other, same-session, does-with}
-use Rattle.engine.proofs.Asked.{a-close, asked-nothing, close-lost, close-done}
 use borrow.Author.Needs.{needs}
 use mir.Facts.{toZ-ofZ}
+use Rattle.history.specs.declared.Event.{Event}
+use Rattle.history.specs.declared.Transition.{Transition}
+use Rattle.history.specs.Standings.{nextStanding}
+use Rattle.engine.proofs.Doing.{does-unopened, does-other, does-with}
+use Rattle.engine.proofs.Asked.{a-close, asked-nothing, close-lost, close-done}
 use Rattle.engine.proofs.close.Statement.{statement}
 use Rattle.engine.proofs.close.Tie as tie
 
@@ -52,25 +56,34 @@ returns-4 c =
     rw (c .refuse4 .ensures)
     (close-lost _ _ _ (omega arith) (omega arith) _ _ (f .before .before .seek .ensures) (f .found .given .1) (omega arith))
 
+close-event-requires : tie.Need-close-event-requires
+close-event-requires c κs = search needs
+
+next-standing-requires : tie.Need-next-standing-requires
+next-standing-requires c κs = search needs
+
 release-requires : tie.Need-release-requires
 release-requires c κs = search needs
 
-sub-t11 : tie.Need-sub-t11
-sub-t11 c = search needs
+sub-accept : tie.Need-sub-accept
+sub-accept c = search needs
 
-closed-at-requires : tie.Need-closed-at-requires
-closed-at-requires c κs = search needs
+accept-requires : tie.Need-accept-requires
+accept-requires c κs = search needs
 
 same-length-3 : tie.Need-same-length-3
 same-length-3 c = search needs
 
 returns-5 : tie.Need-returns-5
 returns-5 c =
-    let b = c .before .before .before .before in
-    let f = b .before .before .before .before .before in
-    does-with
-    (same-session refl (toZ-ofZ (record { sfits = c .struct-told .given .1 .1 .1 .0 .1 })) (omega arith) (c .before .closed-at .ensures))
-    (close-done _ _ _ (omega arith) (omega arith) _ _ (f .before .before .seek .ensures) (f .found .given .1) _ (b .release .ensures) (omega arith))
+    let l = c .before .before .before .before in
+    let t = l .before .before in
+    let f = t .before .before .before .before .before in
+    let i = f .before .before .before .before in
+    let k = i .before .before .before in
+    does-with (c .accept .ensures) (toZ-ofZ (record { sfits = c .before .struct-told .given .1 .1 .1 .0 .1 })) (omega arith)
+    (ap (λ (x : Transition). x .after) (t .next-standing .ensures ∙ ap (λ (x : Event). nextStanding (k .args .s .standing) x) (t .before .close-event .ensures)))
+    (close-done _ _ _ (omega (arith, i .before .if1 .left)) (omega (arith, i .if2 .left)) _ _ (f .before .before .seek .ensures) (f .found .given .1) _ (l .release .ensures) (omega arith))
 
 pub close-spec : {M : Type 1} → statement M
 close-spec =
@@ -89,8 +102,10 @@ close-spec =
     refuse-requires-4
     same-length-2
     returns-4
+    close-event-requires
+    next-standing-requires
     release-requires
-    sub-t11
-    closed-at-requires
+    sub-accept
+    accept-requires
     same-length-3
     returns-5)

@@ -1,11 +1,11 @@
--- `engine::mark` meets its contract: one law for each way out, and the unmarked one is its callee's.
-use mathlib.Core.Path.{refl}
+-- `engine::mark` meets its contract. The tests on the way are those of the refusals in checking order, up to what the standing has against a Mark, which is told from the transition's
+-- `due`; where that is nothing, `mark_allowed` has the rest.
+use mathlib.Core.Path.{ap, sym, _∙_}
 use native.Mathlib.Omega.{arith}
-use Rattle.engine.proofs.Ways.{does-unopened, does-other}
-use Rattle.engine.proofs.Marking.{mark-standing}
-use Rattle.history.specs.declared.Standing.the-variants.{None, Marked, Closed}
-use Rattle.history.specs.declared.Refusal.the-variants.{NothingToMark, AlreadyMarked, AlreadyClosed}
 use borrow.Author.Needs.{needs}
+use Rattle.history.specs.declared.Transition.{Transition}
+use Rattle.engine.proofs.Doing.{does-unopened, does-other}
+use Rattle.engine.proofs.Marking.{allowed, mark-refused}
 use Rattle.engine.proofs.mark.Statement.{statement}
 use Rattle.engine.proofs.mark.Tie as tie
 
@@ -21,44 +21,31 @@ refuse-requires-2 c κs = search needs
 returns-2 : tie.Need-returns-2
 returns-2 c = rw (c .refuse2 .ensures) (does-other _ _ _ (omega arith) (omega arith))
 
+next-standing-requires : tie.Need-next-standing-requires
+next-standing-requires c κs = search needs
+
 enum-told : tie.Need-enum-told
 enum-told c = search needs
+
+mark-allowed-requires : tie.Need-mark-allowed-requires
+mark-allowed-requires c κs = (omega arith, omega arith, allowed (c .before .before .before .next-standing .ensures) (c .before .enum-told .given .1))
+
+enum-known-due : tie.Need-enum-known-due
+enum-known-due c = search needs
 
 refuse-requires-3 : tie.Need-refuse-requires-3
 refuse-requires-3 c κs = search needs
 
-enum-told-2 : tie.Need-enum-told-2
-enum-told-2 c = search needs
-
-mark-unmarked-requires : tie.Need-mark-unmarked-requires
-mark-unmarked-requires c κs = search needs
-
-enum-told-3 : tie.Need-enum-told-3
-enum-told-3 c = search needs
-
-refuse-requires-4 : tie.Need-refuse-requires-4
-refuse-requires-4 c κs = search needs
-
-enum-told-4 : tie.Need-enum-told-4
-enum-told-4 c = search needs
-
-refuse-requires-5 : tie.Need-refuse-requires-5
-refuse-requires-5 c κs = search needs
-
-returns-3 : tie.Need-returns-3
-returns-3 c = rw (c .refuse3 .ensures) (mark-standing _ _ (omega arith) (omega arith) None NothingToMark (c .before .enum-told .given .1) refl)
-
 same-length : tie.Need-same-length
 same-length c = search needs
 
+returns-3 : tie.Need-returns-3
+returns-3 c = search needs
+
 returns-4 : tie.Need-returns-4
-returns-4 c = search needs
-
-returns-5 : tie.Need-returns-5
-returns-5 c = rw (c .refuse4 .ensures) (mark-standing _ _ (omega arith) (omega arith) Marked AlreadyMarked (c .before .enum-told3 .given .1) refl)
-
-returns-6 : tie.Need-returns-6
-returns-6 c = rw (c .refuse5 .ensures) (mark-standing _ _ (omega arith) (omega arith) Closed AlreadyClosed (c .before .enum-told4 .given .1) refl)
+returns-4 c =
+    let t = c .before .before .before .before .next-standing in
+    rw (c .refuse3 .ensures) (mark-refused _ _ (omega arith) (omega arith) _ (sym (ap (λ (x : Transition). x .due) (t .ensures)) ∙ c .before .before .due .given .1))
 
 pub mark-spec : {M : Type 1} → statement M
 mark-spec =
@@ -68,16 +55,11 @@ mark-spec =
     returns
     refuse-requires-2
     returns-2
+    next-standing-requires
     enum-told
+    mark-allowed-requires
+    enum-known-due
     refuse-requires-3
-    enum-told-2
-    mark-unmarked-requires
-    enum-told-3
-    refuse-requires-4
-    enum-told-4
-    refuse-requires-5
-    returns-3
     same-length
-    returns-4
-    returns-5
-    returns-6)
+    returns-3
+    returns-4)

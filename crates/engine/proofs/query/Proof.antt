@@ -1,6 +1,6 @@
 -- `engine::query` meets its contract: one law for each way out.
 use native.Mathlib.Omega.{arith}
-use Rattle.engine.proofs.Ways.{does-unopened, does-other}
+use Rattle.engine.proofs.Doing.{does-unopened, does-other}
 use Rattle.engine.proofs.Asked.{a-query, asked-nothing, query-lost, query-done}
 use borrow.Author.Needs.{needs}
 use Rattle.engine.proofs.query.Statement.{statement}

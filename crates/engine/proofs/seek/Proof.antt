@@ -1,21 +1,21 @@
 -- `engine::seek` meets its contract: a position that no mark can have is not looked for.
 use native.Mathlib.Omega.{arith}
-use Rattle.engine.proofs.Asked.{sighted-none, sighted-found}
+use Rattle.engine.proofs.Asked.{seeks-none, seeks-found}
 use borrow.Author.Needs.{needs}
 use Rattle.engine.proofs.seek.Statement.{statement}
 use Rattle.engine.proofs.seek.Tie as tie
 
 returns : tie.Need-returns
-returns c = sighted-none _ _ _ (λ a b. omega arith)
+returns c = seeks-none _ _ _ (λ a b. omega arith)
 
 returns-2 : tie.Need-returns-2
-returns-2 c = sighted-none _ _ _ (λ a b. omega arith)
+returns-2 c = seeks-none _ _ _ (λ a b. omega arith)
 
 find-requires : tie.Need-find-requires
 find-requires c κs = search needs
 
 returns-3 : tie.Need-returns-3
-returns-3 c = sighted-found _ _ _ _ (omega arith) (omega arith) (c .find .ensures)
+returns-3 c = seeks-found _ _ _ _ (omega arith) (omega arith) (c .find .ensures)
 
 pub seek-spec : {M : Type 1} → statement M
 seek-spec = tie.close (tie.spec returns returns-2 find-requires returns-3)

@@ -1,10 +1,13 @@
--- `engine::value` meets its contract: one law for each way out.
-use mathlib.Core.Path.{refl}
+-- `engine::value` meets its contract. The tests on the way are those of the refusals in checking order; behind them the stack has lowered every minimum by the value at the next
+-- position, which is the law `value-done`. The answer's parts are the next position, the value, the count as it was and the standing after a Value.
+use mathlib.Core.Path.{refl, ap, _∙_}
 use native.Mathlib.Omega.{arith}
-use Rattle.engine.proofs.Ways.{does-unopened, does-other, same-session, does-with}
-use Rattle.engine.proofs.Valued.{value-last, value-done}
 use borrow.Author.Needs.{needs}
 use mir.Facts.{toZ-ofZ}
+use Rattle.history.specs.declared.Standing.{Standing}
+use Rattle.history.specs.declared.Transition.{Transition}
+use Rattle.engine.proofs.Doing.{does-unopened, does-other, does-with}
+use Rattle.engine.proofs.Valued.{value-last, value-done}
 use Rattle.engine.proofs.value.Statement.{statement}
 use Rattle.engine.proofs.value.Tie as tie
 
@@ -26,20 +29,27 @@ refuse-requires-3 c κs = search needs
 returns-3 : tie.Need-returns-3
 returns-3 c = rw (c .refuse3 .ensures) (value-last _ _ _ (omega arith) (omega arith) (omega arith))
 
-add-t12 : tie.Need-add-t12
-add-t12 c = search needs
+add-t15 : tie.Need-add-t15
+add-t15 c = search needs
 
 lower-requires : tie.Need-lower-requires
 lower-requires c κs = search needs
+
+next-standing-requires : tie.Need-next-standing-requires
+next-standing-requires c κs = search needs
+
+accept-requires : tie.Need-accept-requires
+accept-requires c κs = search needs
 
 same-length : tie.Need-same-length
 same-length c = search needs
 
 returns-4 : tie.Need-returns-4
 returns-4 c =
-    let l = c .before .before in
-    let e = toZ-ofZ (l .before .before .before .before .before .before .before .before .before .fits .v) in
-    does-with (same-session refl e refl refl) (value-done _ _ _ (omega arith) (omega arith) _ (omega arith) (rw e at (l .lower .ensures)))
+    let l = c .before .before .before .before in
+    let v = toZ-ofZ (l .before .before .before .before .before .before .before .before .before .fits .v) in
+    does-with (c .accept .ensures) v refl (ap (λ (x : Transition). x .after) (c .before .next-standing .ensures))
+    (value-done _ _ _ (omega arith) (omega arith) _ (omega arith) (rw v at (l .lower .ensures)))
 
 pub value-spec : {M : Type 1} → statement M
 value-spec =
@@ -51,7 +61,9 @@ value-spec =
     returns-2
     refuse-requires-3
     returns-3
-    add-t12
+    add-t15
     lower-requires
+    next-standing-requires
+    accept-requires
     same-length
     returns-4)

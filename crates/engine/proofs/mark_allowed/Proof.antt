@@ -1,12 +1,13 @@
--- `engine::mark_unmarked` meets its contract: full, no history's session, or a row is spared and the position appended.
+-- `engine::mark_allowed` meets its contract. Where the count is K the board is full; where it is more than any opening allows, the session is no history's. Else a row is spared and the
+-- position appended, which is the law `mark-done`, with the minimum that `at_present` makes of the session.
 use mathlib.Core.Path.{refl}
 use native.Mathlib.Omega.{arith}
 use borrow.Author.Needs.{needs}
 use mir.Facts.{toZ-ofZ}
-use Rattle.engine.proofs.Ways.{same-session, does-with}
+use Rattle.engine.proofs.Doing.{does-with}
 use Rattle.engine.proofs.Marking.{mark-full, mark-foreign, mark-done}
-use Rattle.engine.proofs.mark_unmarked.Statement.{statement}
-use Rattle.engine.proofs.mark_unmarked.Tie as tie
+use Rattle.engine.proofs.mark_allowed.Statement.{statement}
+use Rattle.engine.proofs.mark_allowed.Tie as tie
 
 refuse-requires : tie.Need-refuse-requires
 refuse-requires c κs = search needs
@@ -14,7 +15,7 @@ refuse-requires c κs = search needs
 returns : tie.Need-returns
 returns c =
     let p = c .before .before .before .before .pre in
-    rw (c .refuse .ensures) (mark-full _ _ (p .0) (p .1) (p .2) (omega arith))
+    rw (c .refuse .ensures) (mark-full _ _ (p .0) (p .1) _ (p .2) (omega arith))
 
 refuse-requires-2 : tie.Need-refuse-requires-2
 refuse-requires-2 c κs = search needs
@@ -22,7 +23,7 @@ refuse-requires-2 c κs = search needs
 returns-2 : tie.Need-returns-2
 returns-2 c =
     let p = c .before .before .before .before .before .pre in
-    rw (c .refuse2 .ensures) (mark-foreign _ _ (p .0) (p .1) (p .2) (omega arith) (omega arith))
+    rw (c .refuse2 .ensures) (mark-foreign _ _ (p .0) (p .1) _ (p .2) (omega arith) (omega arith))
 
 make-room-requires : tie.Need-make-room-requires
 make-room-requires c κs = search needs
@@ -33,22 +34,25 @@ at-present-requires c κs = search needs
 append-requires : tie.Need-append-requires
 append-requires c κs = search needs
 
-add-t15 : tie.Need-add-t15
-add-t15 c = search needs
+add-accept : tie.Need-add-accept
+add-accept c = search needs
+
+accept-requires : tie.Need-accept-requires
+accept-requires c κs = search needs
 
 same-length : tie.Need-same-length
 same-length c = search needs
 
 returns-3 : tie.Need-returns-3
 returns-3 c =
-    let a = c .before .before .before in
+    let a = c .before .before .before .before in
     let r = a .before .before .before .before .before in
     let p = r .before .before .before .before .before .before .before .pre in
-    does-with (same-session refl (toZ-ofZ (record { sfits = c .struct-told .given .1 .1 .1 .0 .1 })) (omega arith) refl)
-    (mark-done _ _ (p .0) (p .1) (p .2) _ _ (omega arith) (omega arith) (r .make-room .ensures) (rw (a .before .at-present .ensures) at (a .append .ensures)))
+    does-with (c .accept .ensures) (toZ-ofZ (record { sfits = c .before .struct-told .given .1 .1 .1 .0 .1 })) (omega arith) refl
+    (mark-done _ _ (p .0) (p .1) _ (p .2) _ _ (omega arith) (omega arith) (r .make-room .ensures) (rw (a .before .at-present .ensures) at (a .append .ensures)))
 
-pub mark-unmarked-spec : {M : Type 1} → statement M
-mark-unmarked-spec =
+pub mark-allowed-spec : {M : Type 1} → statement M
+mark-allowed-spec =
     tie.close
     (tie.spec
     refuse-requires
@@ -58,6 +62,7 @@ mark-unmarked-spec =
     make-room-requires
     at-present-requires
     append-requires
-    add-t15
+    add-accept
+    accept-requires
     same-length
     returns-3)

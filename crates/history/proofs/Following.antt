@@ -1,0 +1,90 @@
+-- What follows from a step of the bookkeeper, of the paper alone: the session after an acceptance, when a Mark is refused as full, and that what a Query is shown is the
+-- least value since an active mark, which every active mark's Query is shown.
+use mathlib.Core.Path.{_≡_, refl, sym, ap, _∙_}
+use mathlib.Core.Bool.{Bool, true, false, cond}
+use mathlib.Core.List.{List, [], _∷_}
+use mathlib.Core.Option.{none, some}
+use Prim.Native.Nat.{ℕ}
+use native.Mathlib.Omega.{arith}
+use native.Mathlib.Decide.{ℕ-discrete}
+use lib.Dec.{eqb}
+use lib.ListN.{length, length-append}
+use borrow.Author.Tests.{eq-eqb, ne-eqb}
+use Rattle.history.specs.declared.Position.{Position}
+use Rattle.history.specs.declared.Minimum.{Minimum}
+use Rattle.history.specs.declared.Standing.{Standing}
+use Rattle.history.specs.declared.Standing.the-variants.{Unmarked}
+use Rattle.history.specs.declared.Command.{Command}
+use Rattle.history.specs.declared.Command.the-variants.{Value, Mark, Query, Close}
+use Rattle.history.specs.Minima.{minimum, Least}
+use Rattle.history.specs.Replies.{Told, showing}
+use Rattle.history.specs.Standings.{onMark}
+use Rattle.history.specs.Refusals.{markRefusal}
+use Rattle.history.specs.Histories.{History, Stepped, sessionOf, among, isActive, accept, due, step}
+use Rattle.history.specs.Sessions.{sessionAfter}
+use Rattle.history.specs.Sound.{Sound}
+use Rattle.history.proofs.Lowest.{lastOf-more, minimum-least}
+use Rattle.history.proofs.Steps.{refusal-unopened, refusal-other, refusal-own, step-refused, step-accepted}
+use Rattle.history.proofs.Soundness.{rising-among}
+
+-- THE SESSION AFTER AN ACCEPTANCE is the session of the history that follows
+pub session-follows : (h : History) (c : Command) → sessionAfter (sessionOf h) c (length (accept h c .history .active)) ≡ sessionOf (accept h c .history)
+session-follows h (Value v) = λ i. record {
+  words = h .words;
+  limit = h .limit;
+  present = record { 0 = sym (length-append (h .values) (v ∷ [])) i };
+  last = sym (lastOf-more (h .values) v) i;
+  active = length (h .active);
+  standing = Unmarked;
+}
+session-follows h Mark = refl
+session-follows h (Query i) = refl
+session-follows h (Close i) = refl
+
+module _ (h : History) (n : ℕ) (z : h .words ≡ 0 → ⊥) (o : n ≡ h .words) where
+  -- "A tap no earlier rule refuses is refused as full exactly when the opened number is active."
+  pub full-when : h .standing ≡ Unmarked
+      → (step h n Mark .tells .number ≡ 10 → length (h .active) ≡ h .limit) × (length (h .active) ≡ h .limit → step h n Mark .tells .number ≡ 10)
+  full-when u = (
+    (λ e. elim (ℕ-discrete (length (h .active)) (h .limit)) [
+      | yes q ↦ q
+      | no q ↦ absurd (omega (arith, sym e ∙ ap (λ (x : Stepped). x .tells .number) (step-accepted h n Mark (marks ∙ ap (λ (b : Bool). cond b 10 0) (ne-eqb (length (h .active)) (h .limit) q)))))
+    ]),
+    (λ q. ap (λ (x : Stepped). x .tells .number)
+        (step-refused h n Mark 10 (marks ∙ ap (λ (b : Bool). cond b 10 0) (eq-eqb (length (h .active)) (h .limit) q)) (λ x. omega arith))),
+  )
+    where
+      marks : due h n Mark ≡ cond (eqb (length (h .active)) (h .limit)) 10 0
+      marks = refusal-own (sessionOf h) n (isActive h Mark) Mark z o ∙ ap (λ (k : Standing). markRefusal (sessionOf h) (onMark k .due)) u
+
+  -- a Query of an active mark is shown its minimum
+  pub told-minimum : (i : Position) → among i (h .active) ≡ true → step h n (Query i) .tells ≡ showing (minimum (h .values) i)
+  told-minimum i a =
+      ap (λ (x : Stepped). x .tells)
+      (step-accepted h n (Query i) (refusal-own (sessionOf h) n (isActive h (Query i)) (Query i) z o ∙ ap (λ (b : Bool). cond b 0 11) a))
+
+-- an active mark stands at a position, so its minimum is the least value since
+pub active-least : (h : History) (i : Position) → Sound h → among i (h .active) ≡ true → Least (h .values) i (minimum (h .values) i)
+active-least h i s a = let r = rising-among i (s .rising) a in minimum-least (h .values) i (r .0) (r .1)
+
+-- what a Query is shown is the minimum of an active mark
+pub shown-minimum : (h : History) (n : ℕ) (i : Position) (m : Minimum) → step h n (Query i) .tells .shown ≡ some m
+    → (among i (h .active) ≡ true) × (m ≡ minimum (h .values) i)
+shown-minimum h n i m e = elim (ℕ-discrete (due h n (Query i)) 0) [
+  | yes q ↦
+      let x : some (minimum (h .values) i) ≡ some m = sym (ap (λ (x : Stepped). x .tells .shown) (step-accepted h n (Query i) q)) ∙ e in
+      let y : minimum (h .values) i ≡ m = cc in
+      let z : h .words ≡ 0 → ⊥ = λ o. omega (arith, refusal-unopened (sessionOf h) n (isActive h (Query i)) (Query i) o) in
+      let o : n ≡ h .words = elim (ℕ-discrete n (h .words)) [
+        | yes o ↦ o
+        | no o ↦ absurd (omega (arith, refusal-other (sessionOf h) n (isActive h (Query i)) (Query i) z o))
+      ] in
+      (is-active (among i (h .active)) (sym (refusal-own (sessionOf h) n (isActive h (Query i)) (Query i) z o) ∙ q), sym y)
+  | no q ↦
+      let x : none ≡ some m = sym (ap (λ (x : Stepped). x .tells .shown) (step-refused h n (Query i) (due h n (Query i)) refl q)) ∙ e in
+      absurd (let y : _≡_ {A = ℕ} 0 1 = cc in omega arith)
+]
+  where
+    is-active : (b : Bool) → _≡_ {A = ℕ} (cond b 0 11) 0 → b ≡ true
+    is-active true x = refl
+    is-active false x = absurd (omega arith)

@@ -1,0 +1,98 @@
+-- The refusals, the opening and the bookkeeper's steps, by the tests that decide them.
+use mathlib.Core.Path.{_≡_, refl, sym, ap, _∙_}
+use mathlib.Core.Bool.{Bool, true, false, cond}
+use Prim.Native.Nat.{ℕ, _<_, _≤_}
+use native.Mathlib.Decide.{decLt}
+use native.Mathlib.Omega.{arith}
+use lib.Dec.{eqb, ltb}
+use borrow.Author.Tests.{eq-eqb, ne-eqb, lt-ltb, le-ltb}
+use Rattle.history.specs.declared.Standing.{Standing}
+use Rattle.history.specs.declared.Standing.the-variants.{None, Unmarked, Marked, Closed}
+use Rattle.history.specs.declared.Session.{Session}
+use Rattle.history.specs.declared.Command.{Command}
+use Rattle.history.specs.declared.Command.the-variants.{Value, Mark, Query, Close}
+use Rattle.history.specs.declared.Event.{Event}
+use Rattle.history.specs.declared.Due.the-variants.{Nothing}
+use Rattle.history.specs.declared.Refusal.{Refusal}
+use Rattle.history.specs.declared.Refusal.the-variants.{AreaTooShort, UnknownKind, ArgumentCutOff, Unopened, OtherLength, LastPosition, NothingToMark, AlreadyMarked, AlreadyClosed, Full, NotActive}
+use Rattle.history.specs.Replies.{numbered, accepted, numberOf}
+use Rattle.history.specs.Standings.{onMark, nextStanding}
+use Rattle.history.specs.Refusals.{ownRefusal, refusal}
+use Rattle.history.specs.Histories.{History, Stepped, limitOf, blank, opening, accept, refuse, due, step}
+
+-- no refusal has the number of an acceptance
+pub some-number : (r : Refusal) → numberOf r ≡ 0 → ⊥
+some-number AreaTooShort e = omega arith
+some-number UnknownKind e = omega arith
+some-number ArgumentCutOff e = omega arith
+some-number Unopened e = omega arith
+some-number OtherLength e = omega arith
+some-number LastPosition e = omega arith
+some-number NothingToMark e = omega arith
+some-number AlreadyMarked e = omega arith
+some-number AlreadyClosed e = omega arith
+some-number Full e = omega arith
+some-number NotActive e = omega arith
+
+module _ (s : Session) (n : ℕ) (b : Bool) (c : Command) where
+  pub refusal-unopened : s .words ≡ 0 → refusal s n b c ≡ 4
+  refusal-unopened z = rw (eq-eqb (s .words) 0 z)
+
+  pub refusal-other : (s .words ≡ 0 → ⊥) → (n ≡ s .words → ⊥) → refusal s n b c ≡ 5
+  refusal-other z o = rw (ne-eqb (s .words) 0 z, ne-eqb n (s .words) o)
+
+  pub refusal-own : (s .words ≡ 0 → ⊥) → n ≡ s .words → refusal s n b c ≡ ownRefusal s b c
+  refusal-own z o = rw (ne-eqb (s .words) 0 z, eq-eqb n (s .words) o)
+
+-- the standing has nothing against a Mark where it is unmarked, and only there
+pub unmarked-only : (k : Standing) → nextStanding k Event.Mark .due ≡ Nothing → k ≡ Unmarked
+unmarked-only None e = cc
+unmarked-only Unmarked e = refl
+unmarked-only Marked e = cc
+unmarked-only Closed e = cc
+
+-- and then it is not unmarked any more
+pub marked-after : (k : Standing) → nextStanding k Event.Mark .due ≡ Nothing → nextStanding k Event.Mark .after ≡ Marked
+marked-after k e = ap (λ (x : Standing). onMark x .after) (unmarked-only k e)
+
+module _ (h : History) (n : ℕ) (c : Command) where
+  pub step-refused : (k : ℕ) → due h n c ≡ k → (k ≡ 0 → ⊥) → step h n c ≡ refuse h k
+  step-refused k e z = rw (e, ne-eqb k 0 z)
+
+  pub step-accepted : due h n c ≡ 0 → step h n c ≡ accept h c
+  step-accepted e = rw (e)
+
+-- no command alters the opened length
+accept-words : (h : History) (c : Command) → accept h c .history .words ≡ h .words
+accept-words h (Value v) = refl
+accept-words h Mark = refl
+accept-words h (Query i) = refl
+accept-words h (Close i) = refl
+
+pub step-words : (h : History) (n : ℕ) (c : Command) → step h n c .history .words ≡ h .words
+step-words h n c = go (eqb (due h n c) 0)
+  where
+    go : (b : Bool) → cond b (accept h c) (refuse h (due h n c)) .history .words ≡ h .words
+    go true = accept-words h c
+    go false = refl
+
+-- an opening is refused below 576 words, and only there
+pub opening-refused : (n : ℕ) → n < 576 → opening n ≡ record { history = blank 0 0; tells = numbered 1 }
+opening-refused n l = rw (lt-ltb n 576 l)
+
+pub opening-accepted : (n : ℕ) → 576 ≤ n → opening n ≡ record { history = blank n (limitOf n); tells = accepted }
+opening-accepted n l = rw (le-ltb n 576 l)
+
+-- one whose number is not 0 was lent too few words
+pub opening-short : (n : ℕ) → (opening n .tells .number ≡ 0 → ⊥) → n < 576
+opening-short n z = elim (decLt n 576) [
+  | yes l ↦ l
+  | no l ↦ absurd (z (ap (λ (x : Stepped). x .tells .number) (opening-accepted n (omega (arith, l)))))
+]
+
+-- one that opens words at all opens as many as it was lent
+pub opening-words : (n : ℕ) → (opening n .history .words ≡ 0 → ⊥) → opening n .history .words ≡ n
+opening-words n z = elim (decLt n 576) [
+  | yes l ↦ absurd (z (ap (λ (x : Stepped). x .history .words) (opening-refused n l)))
+  | no l ↦ ap (λ (x : Stepped). x .history .words) (opening-accepted n (omega (arith, l)))
+]

@@ -1,0 +1,33 @@
+-- The session after an acceptance, of any session, also of one that no call returned. That it is the history's is the law `session-follows`, of proofs/Following.
+use Prim.Native.Nat.{ℕ}
+use lib.IntN.{ℤ}
+use Rattle.history.specs.declared.Position.{Position}
+use Rattle.history.specs.declared.Session.{Session}
+use Rattle.history.specs.declared.Command.{Command}
+use Rattle.history.specs.declared.Command.the-variants.{Value, Mark, Query, Close}
+use Rattle.history.specs.Minima.{next}
+use Rattle.history.specs.Standings.{eventOf, nextStanding}
+
+-- "the present position is the number of accepted Values"
+abbrev pub presentAfter : Position → Command → Position
+presentAfter p (Value v) = next p
+presentAfter p Mark = p
+presentAfter p (Query i) = p
+presentAfter p (Close i) = p
+
+abbrev pub lastAfter : ℤ → Command → ℤ
+lastAfter last (Value v) = v
+lastAfter last Mark = last
+lastAfter last (Query i) = last
+lastAfter last (Close i) = last
+
+-- N and K stay; of the active marks so many are counted
+abbrev pub sessionAfter : Session → Command → ℕ → Session
+sessionAfter s c counted = record {
+  words = s .words;
+  limit = s .limit;
+  present = presentAfter (s .present) c;
+  last = lastAfter (s .last) c;
+  active = counted;
+  standing = nextStanding (s .standing) (eventOf (s .present) c) .after;
+}
