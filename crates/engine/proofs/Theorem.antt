@@ -104,3 +104,7 @@ module _ (opened : OpeningSays) (did : CallSays) (opens : (first left : List ℕ
       let e = ap (λ (x : Stepped). x .history) (opening-refused (length first) l) in
       let n : opening (length first) .history .words ≡ 0 = ap (λ (h : History). h .words) e in
       fours first left cs (rw (n, e) at (demand-3 first left o cs q (rw n m) .1))
+
+-- DEMAND 3, of calls of which the contracts are known: for a caller of the engine, who knows no more of its calls than what the contracts say
+pub by-contract : Demand3 Opens Done
+by-contract = demand-3 Opens Done (λ first left o d. d) (λ s c d. d)

@@ -1,6 +1,6 @@
 pub mod Copies
 pub mod Decimals
-pub mod Signs
-pub mod Chains
-pub mod Runs
+pub mod SignedTexts
+pub mod Texts
+pub mod Streams
 pub mod Examples

@@ -1,3 +1,4 @@
 pub mod Writing
 pub mod Output
-pub mod Following
+pub mod Streams
+pub mod Private

@@ -4,19 +4,19 @@ mod lines;
 mod text;
 
 ghost use mathlib.Core.Path.{_≡_};
-ghost use Prim.Native.Nat.{_+_, _<_, _≤_};
-ghost use lib.ListN.{length};
+ghost use mathlib.Core.List.{[], _∷_};
+ghost use Prim.Native.Nat.{_<_, _≤_};
 ghost use Rattle.history.specs.Replies.{told};
-ghost use Rattle.history.specs.Histories.{opening};
-ghost use Rattle.stream.specs.Following.{acceptances, GoesOn, Ran, RanFrom};
+ghost use Rattle.stream.specs.Streams.{acceptances, Plays};
+ghost use Rattle.stream.specs.Private.{Performs, Follows};
 use history::Command;
 use history::Reply;
 use history::Session;
 use reading::Reading;
 use text::Line;
 
-// How far a run has come: the session, and how many commands were read and accepted.
-struct Run {
+// How far a stream has been followed: the session, and how many commands were read and accepted.
+struct Progress {
     session: Session,
     read: usize,
     accepted: usize,
@@ -31,7 +31,7 @@ fn show(line: Line)
 }
 
 fn acceptances_of(reply: Reply) -> usize
-    ensures { λ r. ⌜ r ≡ acceptances (told reply) ⌝ }
+    ensures { λ r. ⌜ r ≡ acceptances (told reply ∷ []) ⌝ }
 {
     if history::reply_number(reply) == 0 {
         1
@@ -40,28 +40,28 @@ fn acceptances_of(reply: Reply) -> usize
     }
 }
 
-// The next command of a run, with its line. There is room to count one more.
-fn step(run: Run, area: &mut [u64], command: Command) -> Run
-    requires { ⌜ (run .accepted ≤ run .read) × (run .read < 18446744073709551615) ⌝ }
-    ensures { λ r. ⌜ GoesOn run command (now (area .entry)) (now (area .exit)) r ⌝ }
+// The next command, with its line. There is room to count one more.
+fn perform(progress: Progress, area: &mut [u64], command: Command) -> Progress
+    requires { ⌜ (progress .accepted ≤ progress .read) × (progress .read < 18446744073709551615) ⌝ }
+    ensures { λ r. ⌜ Performs progress command (now (area .entry)) (now (area .exit)) r ⌝ }
 {
-    let read = run.read + 1;
-    let answer = engine::apply(run.session, area, command);
+    let read = progress.read + 1;
+    let answer = engine::apply(progress.session, area, command);
     let reply = answer.reply;
     let session = answer.session;
     show(lines::answer(read, command, reply));
-    Run {
+    Progress {
         session,
         read,
-        accepted: run.accepted + acceptances_of(reply),
+        accepted: progress.accepted + acceptances_of(reply),
     }
 }
 
 // The commands of a stream go to the session one after the other, until it ends or one cannot be read.
-fn follow(bytes: &[u8], area: &mut [u64], session: Session) -> Run
-    ensures { λ r. ⌜ RanFrom session (now (area .entry)) (now (bytes .entry)) r ⌝ }
+fn follow(bytes: &[u8], area: &mut [u64], session: Session) -> Progress
+    ensures { λ r. ⌜ Follows session (now (area .entry)) (now (bytes .entry)) r ⌝ }
 {
-    let mut run = Run {
+    let mut progress = Progress {
         session,
         read: 0,
         accepted: 0,
@@ -70,22 +70,22 @@ fn follow(bytes: &[u8], area: &mut [u64], session: Session) -> Run
     loop {
         let reading = reading::read(&bytes[at..]);
         match reading {
-            Reading::End => return run,
+            Reading::End => return progress,
             Reading::Next { command, length } => {
-                run = step(run, area, command);
+                progress = perform(progress, area, command);
                 at += length;
             }
             Reading::Refused(why) => {
                 show(lines::stop(at, why));
-                return run;
+                return progress;
             }
         }
     }
 }
 
 // A stream from its opening on.
-fn play(bytes: &[u8]) -> Run
-    ensures { λ r. ⌜ Ran (opening 4352 .history) 4352 (now (bytes .entry)) r ⌝ }
+fn play(bytes: &[u8]) -> Progress
+    ensures { λ r. ⌜ Plays 4352 (now (bytes .entry)) r ⌝ }
 {
     let mut area = [0u64; 4352];
     let opened = engine::open(&mut area);
@@ -97,7 +97,7 @@ fn play(bytes: &[u8]) -> Run
 fn main() {
     let mut bytes = [0u8; 16384];
     let n = io::read_full(0, &mut bytes);
-    let run = play(&bytes[..n]);
-    let session = run.session;
-    show(lines::end(run.read, run.accepted, session.active));
+    let progress = play(&bytes[..n]);
+    let session = progress.session;
+    show(lines::end(progress.read, progress.accepted, session.active));
 }

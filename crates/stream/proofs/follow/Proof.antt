@@ -1,22 +1,22 @@
--- `stream::follow` meets its contract. The loop's invariant: the bookkeeper, told the commands before the present place, has come as far as the run. Each command that is read
--- moves the place by a byte or more, so that the measure, what is left of the stream, falls; where none is read the run is whole.
+-- `stream::follow` meets its contract. The loop's invariant: the calls made so far are those of the commands before the present place, in turn. Each command that is read moves the
+-- place by a byte or more, so that the measure, what is left of the stream, falls; where none is read the calls are those of the whole stream.
 use borrow.Author.Needs.{needs}
 use mathlib.Core.Path.{refl}
 use Prim.Native.Nat.{_+_, _-_, _≤_}
 use native.Mathlib.Omega.{arith}
 use lib.ListN.{length}
-use Rattle.stream.proofs.Runs.{Under, under-start, moves, under-more, under-end}
+use Rattle.stream.proofs.Streams.{Reached, reached-start, moves, reached-more, reached-end}
 use Rattle.stream.proofs.follow.Statement.{statement}
 use Rattle.stream.proofs.follow.Tie as tie
 
 abbrev Inv-loop : tie.InvT-loop
-Inv-loop bytes area₀ run₀ at₀ area run at = Under bytes area₀ (run₀ .session) area run at
+Inv-loop bytes area₀ progress₀ at₀ area progress at = Reached bytes area₀ (progress₀ .session) area progress at
 
 abbrev μ-loop : tie.MeasureT-loop
-μ-loop bytes area₀ run₀ at₀ area run at = length bytes - at
+μ-loop bytes area₀ progress₀ at₀ area progress at = length bytes - at
 
 loop-holds : tie.Need-loop-holds Inv-loop μ-loop
-loop-holds c = under-start (c .before .before .args .bytes .now) (c .before .before .args .area .now) (c .before .before .args .session)
+loop-holds c = reached-start (c .before .before .args .bytes .now) (c .before .before .args .area .now) (c .before .before .args .session)
 
 sub-read : tie.Need-sub-read Inv-loop μ-loop
 sub-read c = search needs
@@ -39,7 +39,7 @@ same-length c = c .before .before .before .before .loop .inv .long
 returns : tie.Need-returns Inv-loop μ-loop
 returns c =
     let l = c .before .before .before .before in
-    under-end (l .loop .inv) (c .before .before .read .ensures) (c .enum-told .given .1) refl
+    reached-end (l .loop .inv) (c .before .before .read .ensures) (c .enum-told .given .1) refl
 
 enum-known-reading : tie.Need-enum-known-reading Inv-loop μ-loop
 enum-known-reading c = search needs
@@ -52,10 +52,10 @@ moved c =
     let l = c .before .before .before .before in
     moves (l .before .before .before .args .bytes .now) (l .loop .at) (l .loop .inv .within) (c .before .before .read .ensures) (c .reading .given .1)
 
-step-requires : tie.Need-step-requires Inv-loop μ-loop
-step-requires c κs =
+perform-requires : tie.Need-perform-requires Inv-loop μ-loop
+perform-requires c κs =
     let l = c .before .before .before .before .before .before in
-    (l .loop .inv .few, omega (arith, l .loop .inv .read, moved (c .before .before), l .before .before .before .good .0 .0))
+    (l .loop .inv .few, omega (arith, l .loop .inv .small, moved (c .before .before), l .before .before .before .good .0 .0))
 
 add-at : tie.Need-add-at Inv-loop μ-loop
 add-at c = record { fits = omega (arith, moved (c .before .before .before .before .before)) }
@@ -67,7 +67,7 @@ loop-again : tie.Need-loop-again Inv-loop μ-loop
 loop-again c =
     let r = c .before .before .before .before .before in
     let l = r .before .before .before .before in
-    under-more (l .loop .inv) (r .before .before .read .ensures) (r .reading .given .1) (c .before .before .step .ensures)
+    reached-more (l .loop .inv) (r .before .before .read .ensures) (r .reading .given .1) (c .before .before .perform .ensures)
 
 enum-known-reading-2 : tie.Need-enum-known-reading-2 Inv-loop μ-loop
 enum-known-reading-2 c = search needs
@@ -85,7 +85,7 @@ returns-2 : tie.Need-returns-2 Inv-loop μ-loop
 returns-2 c =
     let r = c .before .before .before in
     let l = r .before .before .before .before in
-    under-end (l .loop .inv) (r .before .before .read .ensures) (r .reading2 .given .1) refl
+    reached-end (l .loop .inv) (r .before .before .read .ensures) (r .reading2 .given .1) refl
 
 pub follow-spec : {M : Type 1} → statement M
 follow-spec =
@@ -102,7 +102,7 @@ follow-spec =
     same-length
     returns
     enum-known-reading
-    step-requires
+    perform-requires
     add-at
     loop-less
     loop-again

@@ -1,8 +1,9 @@
--- `stream::play` meets its contract: an opening of 4,352 words is one of the bookkeeper's, and the run goes on from there.
+-- `stream::play` meets its contract: what an opening of 4,352 words and the calls that follow tell is what the bookkeeper tells.
 use borrow.Author.Needs.{needs}
 use Prim.Native.Nat.{ℕ}
+use native.Mathlib.Omega.{arith}
 use lib.ListN.{length-replicate}
-use Rattle.stream.proofs.Runs.{from-opening}
+use Rattle.stream.proofs.Streams.{from-opening}
 use Rattle.stream.proofs.play.Statement.{statement}
 use Rattle.stream.proofs.play.Tie as tie
 
@@ -27,7 +28,7 @@ follow-requires c κs = search needs
 returns : tie.Need-returns
 returns c =
     let o = c .before .before .before .before .before .before .before in
-    from-opening (length-replicate {A = ℕ} 4352 0) (o .«open» .ensures) (c .before .follow .ensures)
+    from-opening (length-replicate {A = ℕ} 4352 0) (omega arith) (o .«open» .ensures) (c .before .follow .ensures)
 
 pub play-spec : {M : Type 1} → statement M
 play-spec =

@@ -1,7 +1,7 @@
 -- `stream::lines::end` meets its contract: the texts that are put one after the other are those of the line.
 use borrow.Author.Needs.{needs}
 use native.Mathlib.Omega.{arith}
-use Rattle.stream.proofs.Chains.{then, whole}
+use Rattle.stream.proofs.Texts.{then, whole}
 use Rattle.stream.proofs.lines.end.Statement.{statement}
 use Rattle.stream.proofs.lines.end.Tie as tie
 

@@ -3,7 +3,7 @@ use borrow.Author.Needs.{needs}
 use mir.Syntax.{w32}
 use mir.Val.{SFits}
 use mir.Facts.{toZ-ofZ}
-use Rattle.stream.proofs.Chains.{then}
+use Rattle.stream.proofs.Texts.{then}
 use Rattle.stream.proofs.lines.put_minimum.Statement.{statement}
 use Rattle.stream.proofs.lines.put_minimum.Tie as tie
 

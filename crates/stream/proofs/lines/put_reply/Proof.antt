@@ -3,7 +3,7 @@ use borrow.Author.Needs.{needs}
 use mathlib.Core.Path.{ap}
 use Rattle.history.specs.declared.Reply.{Reply}
 use Rattle.history.specs.Replies.{told}
-use Rattle.stream.proofs.Chains.{shows, bare}
+use Rattle.stream.proofs.Texts.{shows, bare}
 use Rattle.stream.proofs.lines.put_reply.Statement.{statement}
 use Rattle.stream.proofs.lines.put_reply.Tie as tie
 

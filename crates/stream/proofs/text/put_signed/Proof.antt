@@ -2,8 +2,8 @@
 use borrow.Author.Needs.{needs}
 use native.Mathlib.Omega.{arith}
 use mir.Facts.{toZ-ofZ}
-use Rattle.stream.proofs.Signs.{minus-text, plain-text}
-use Rattle.stream.proofs.Chains.{then, wider}
+use Rattle.stream.proofs.SignedTexts.{minus-text, plain-text}
+use Rattle.stream.proofs.Texts.{then, wider}
 use Rattle.stream.proofs.text.put_signed.Statement.{statement}
 use Rattle.stream.proofs.text.put_signed.Tie as tie
 

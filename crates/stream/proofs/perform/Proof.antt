@@ -1,13 +1,12 @@
--- `stream::step` meets its contract: `engine::apply` does as the bookkeeper does, and what is added to the counts is read off its reply.
+-- `stream::perform` meets its contract. The call is `engine::apply`'s, of which its contract is known; what is added to the counts is read off its reply.
 use borrow.Author.Needs.{needs}
-use mathlib.Core.Path.{refl, ap, _∙_}
+use mathlib.Core.Path.{refl, ap}
 use Prim.Native.Nat.{ℕ, _+_, _≤_}
 use native.Mathlib.Omega.{arith}
 use Rattle.history.specs.Replies.{told}
-use Rattle.stream.specs.Following.{acceptances}
-use Rattle.stream.proofs.Runs.{at-most-one}
-use Rattle.stream.proofs.step.Statement.{statement}
-use Rattle.stream.proofs.step.Tie as tie
+use Rattle.stream.proofs.Streams.{at-most-one}
+use Rattle.stream.proofs.perform.Statement.{statement}
+use Rattle.stream.proofs.perform.Tie as tie
 
 add-read : tie.Need-add-read
 add-read c = search needs
@@ -40,17 +39,17 @@ returns : tie.Need-returns
 returns c =
     let a = c .before .before .before .before .before .before .before in
     let s = a .before .before .before .before in
-    let d = a .apply .ensures in
+    let d = a .apply in
     record {
-      long = d .long;
+      told = told (d .result .reply);
+      done = (d .result, d .ensures, refl, refl);
       read = refl;
+      accepted = ap (λ (n : ℕ). s .args .progress .accepted + n) (c .before .acceptances-of .ensures);
       few = omega (arith, s .pre, one (c .before));
-      accepted = λ h lent k. ap (λ (n : ℕ). s .args .run .accepted + n) (c .before .acceptances-of .ensures ∙ ap acceptances (d .tells h lent k));
-      represents = d .represents;
     }
 
-pub step-spec : {M : Type 1} → statement M
-step-spec =
+pub perform-spec : {M : Type 1} → statement M
+perform-spec =
     tie.close
     (tie.spec
     add-read
