@@ -19,14 +19,13 @@ use Rattle.history.specs.Minima.{standsAt, minimum}
 use Rattle.history.specs.Replies.{showing}
 use Rattle.history.specs.Refusals.{refusal}
 use Rattle.history.specs.Histories.{History, presentOf, sessionOf, among, without, isActive, closed}
-use Rattle.history.proofs.Order.{clash}
+use Rattle.laws.proofs.Tests.{clash, refuted}
 use Rattle.layout.specs.declared.Held.{Held}
 use Rattle.layout.specs.Layout.{position}
 use Rattle.table.specs.declared.Found.{Found}
 use Rattle.table.specs.declared.Found.the-variants as found
 use Rattle.table.specs.Marks.{Live}
 use Rattle.table.specs.Calls.{Sought, Released}
-use Rattle.table.proofs.Positions.{refuted}
 use Rattle.table.proofs.Active.{live-among, among-live, not-among}
 use Rattle.table.proofs.Struck.{struck-once}
 use Rattle.stack.specs.declared.Low.{Low}

@@ -22,7 +22,7 @@ use Rattle.history.specs.Minima.{minimum, Least}
 use Rattle.history.specs.Replies.{Told, numbered, accepted, showing, told}
 use Rattle.history.specs.Refusals.{markRefusal, refusal}
 use Rattle.history.specs.Histories.{History, Stepped, sessionOf, limitOf, blank, opening, among, isActive, accept, refuse, due, step}
-use Rattle.history.proofs.Order.{clash}
+use Rattle.laws.proofs.Tests.{clash}
 use Rattle.history.proofs.Lowest.{minimum-least}
 use Rattle.table.proofs.Active.{among-live}
 use Rattle.engine.specs.Promises.{AsLent, AfterRefusal, AfterAcceptance, shows, Settled}

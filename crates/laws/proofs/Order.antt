@@ -1,15 +1,11 @@
 -- The order of ℤ as tests: `leZ` is reflexive, transitive and total.
-use mathlib.Core.Path.{_≡_, refl, sym, subst}
-use mathlib.Core.Bool.{Bool, true, false}
+use mathlib.Core.Path.{_≡_, refl, sym}
+use mathlib.Core.Bool.{true, false}
 use native.Mathlib.Omega.{arith}
-use lib.Dec.{T}
 use lib.IntN.{ℤ, pos, negsuc}
 use lib.Signed.{leZ}
 use borrow.Author.Tests.{leb-true, leb-false, le-leb}
-
--- a test that is both true and false
-pub clash : {C : Type 0} {b : Bool} → b ≡ true → b ≡ false → C
-clash p q = absurd (let z : true ≡ false = cc in subst T z tt)
+use Rattle.laws.proofs.Tests.{clash}
 
 pub leZ-refl : (a : ℤ) → leZ a a ≡ true
 leZ-refl (pos a) = le-leb a a (omega arith)
