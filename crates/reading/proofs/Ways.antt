@@ -7,9 +7,9 @@ use native.Mathlib.Omega.{arith}
 use lib.ListN.{length, getD, take, drop}
 use borrow.Author.Tests.{lt-ltb, le-ltb}
 use Rattle.history.specs.declared.Command.{Command}
+use Rattle.endian.specs.Numbers.{littleEndian}
 use Rattle.reading.specs.declared.Kind.{Kind}
 use Rattle.reading.specs.declared.KindByte.the-variants.{Known, Unknown}
-use Rattle.reading.specs.Numbers.{littleEndian}
 use Rattle.reading.specs.Kinds.{kindOf, argumentBytes, commandOf}
 use Rattle.reading.specs.Outcomes.{ended, next, refused, readingOf}
 

@@ -1,11 +1,11 @@
--- `reading::little_endian` meets its contract. The loop's invariant: the number is that of the bytes from i on, and below 256 for each of them, so that of
+-- `endian::little_endian` meets its contract. The loop's invariant: the number is that of the bytes from i on, and below 256 for each of them, so that of
 -- four bytes it fits 32 bits. The measure is i.
 use borrow.Author.Needs.{needs}
 use Prim.Native.Nat.{_<_}
 use native.Mathlib.Omega.{arith}
-use Rattle.reading.proofs.Bytes.{Summed, summed-none, summed-more, summed-room, summed-all}
-use Rattle.reading.proofs.little_endian.Statement.{statement}
-use Rattle.reading.proofs.little_endian.Tie as tie
+use Rattle.endian.proofs.Sums.{Summed, summed-none, summed-more, summed-room, summed-all}
+use Rattle.endian.proofs.little_endian.Statement.{statement}
+use Rattle.endian.proofs.little_endian.Tie as tie
 
 abbrev Inv-loop : tie.InvT-loop
 Inv-loop bytes number₀ i₀ number i = Summed bytes number i
