@@ -1,7 +1,6 @@
-// Command bytes: the next command of a stream, or why it cannot be read. What the bytes mean is said in specs/, from document 01 alone;
-// what a command does is not known here.
+// Command bytes: the next command of a stream, or why it cannot be read. What the bytes mean is said in specs/, from document 01 alone, with the
+// numbers of `endian` and `signed`; what a command does is not known here.
 ghost use mathlib.Core.Path.{_≡_};
-ghost use Rattle.reading.specs.Numbers.{signedOf};
 ghost use Rattle.reading.specs.Kinds.{kindOf, argumentBytes, commandOf};
 ghost use Rattle.reading.specs.Outcomes.{readAs, readingOf};
 use history::Command;
@@ -54,21 +53,11 @@ fn argument_bytes(kind: Kind) -> usize
     }
 }
 
-fn signed_of(number: u32) -> i32
-    ensures { λ r. ⌜ r ≡ signedOf number ⌝ }
-{
-    if number < 2147483648 {
-        number as i32
-    } else {
-        (number as i64 - 4294967296) as i32
-    }
-}
-
 fn command_of(kind: Kind, argument: u32) -> Command
     ensures { λ r. ⌜ r ≡ commandOf kind argument ⌝ }
 {
     match kind {
-        Kind::Value => Command::Value(signed_of(argument)),
+        Kind::Value => Command::Value(signed::signed_of(argument)),
         Kind::Mark => Command::Mark,
         Kind::Query => Command::Query(Position(argument)),
         Kind::Close => Command::Close(Position(argument)),

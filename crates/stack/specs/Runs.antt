@@ -11,7 +11,7 @@ use Rattle.history.specs.Minima.{standsAt}
 use Rattle.layout.specs.declared.Held.{Held}
 use Rattle.layout.specs.declared.Place.{Place}
 use Rattle.layout.specs.Layout.{rows, height, leastWord, leastAt, first, Fits}
-use Rattle.words.specs.Word.{valueOf}
+use Rattle.signed.specs.Word.{valueOf}
 
 -- the place above
 abbrev pub above : Place → Place

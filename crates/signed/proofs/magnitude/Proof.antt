@@ -1,4 +1,4 @@
--- `words::magnitude` meets its contract: below zero, 0 less the value is its size, in 64 bits also of the least value; from zero on the value is its size.
+-- `signed::magnitude` meets its contract: below zero, 0 less the value is its size, in 64 bits also of the least value; from zero on the value is its size.
 use borrow.Author.Needs.{needs}
 use mathlib.Core.Path.{_≡_}
 use native.Mathlib.Omega.{arith}
@@ -6,9 +6,9 @@ use lib.IntN.{pos, natAbs, _-ℤ_}
 use mir.Syntax.{w64}
 use mir.Val.{SFits}
 use mir.Facts.{toZ-ofZ, sfits-widen}
-use Rattle.words.proofs.Signs.{negated, plain, size-small}
-use Rattle.words.proofs.magnitude.Statement.{statement}
-use Rattle.words.proofs.magnitude.Tie as tie
+use Rattle.signed.proofs.Size.{negated, plain, size-small}
+use Rattle.signed.proofs.magnitude.Statement.{statement}
+use Rattle.signed.proofs.magnitude.Tie as tie
 
 neg-of : (c : tie.Then1) → pos 0 -ℤ c .before .args .v ≡ pos (natAbs (c .before .args .v))
 neg-of c = negated (c .before .args .v) (simp (toZ-ofZ, c .before .fits .v) at (c .if1 .taken))

@@ -1,4 +1,4 @@
--- `reading::signed_of` meets its contract: below 2 ^ 31 the number is itself, and from there on it is less than 2 ^ 32, as a u32 is, so that what is
+-- `signed::signed_of` meets its contract: below 2 ^ 31 the number is itself, and from there on it is less than 2 ^ 32, as a u32 is, so that what is
 -- left fits 32 bits.
 use borrow.Author.Needs.{needs}
 use borrow.Author.Tests.{le-ltb, lt-ltb}
@@ -8,9 +8,9 @@ use mir.Syntax.{w32, w64}
 use mir.Val.{SFits}
 use mir.Facts.{sfits-widen, toZ-ofZ}
 use mir.ValLaws.{toZ-pos}
-use Rattle.reading.proofs.Bytes.{lowered}
-use Rattle.reading.proofs.signed_of.Statement.{statement}
-use Rattle.reading.proofs.signed_of.Tie as tie
+use Rattle.signed.proofs.Offset.{lowered}
+use Rattle.signed.proofs.signed_of.Statement.{statement}
+use Rattle.signed.proofs.signed_of.Tie as tie
 
 cast-result : tie.Need-cast-result
 cast-result c = search needs

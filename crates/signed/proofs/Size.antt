@@ -1,10 +1,9 @@
--- The size of a signed value of 32 bits.
-use mathlib.Core.Path.{_≡_, refl, ap, subst}
-use mathlib.Core.Bool.{true, false}
+-- The size of a signed value of 32 bits: it is at most 2 ^ 31; below zero it is 0 less the value, and from zero on it is the value.
+use mathlib.Core.Path.{_≡_, refl, ap}
+use mathlib.Core.Bool.{true, false, true≢false}
 use Prim.Native.Nat.{suc, _≤_}
 use native.Mathlib.Nat.{zero-add}
 use native.Mathlib.Omega.{arith}
-use lib.Dec.{T}
 use lib.IntN.{ℤ, pos, negsuc, natAbs, _-ℤ_}
 use lib.Signed.{ltZ}
 use borrow.Author.Tests.{ltb-true}
@@ -24,4 +23,4 @@ negated (negsuc n) e = ap pos (zero-add (suc n))
 -- from zero on, the value is its size
 pub plain : (v : ℤ) → ltZ v (pos 0) ≡ false → v ≡ pos (natAbs v)
 plain (pos n) e = refl
-plain (negsuc n) e = absurd (subst T e tt)
+plain (negsuc n) e = absurd (true≢false e)

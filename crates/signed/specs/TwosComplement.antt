@@ -1,4 +1,4 @@
--- Document 01, "Command bytes": "Value's is two's complement".
+-- Document 01, "Command bytes": "Value's is two's complement". The signed value that an unsigned number of 32 bits stands for.
 use mathlib.Core.Bool.{cond}
 use Prim.Native.Nat.{ℕ}
 use lib.IntN.{ℤ, pos, _-ℤ_}
