@@ -1,3 +1,3 @@
-pub mod Ways
+pub mod Readings
 pub mod Lengths
 pub mod Examples

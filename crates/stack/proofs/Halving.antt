@@ -10,7 +10,7 @@ use Rattle.layout.specs.declared.Held.{Held}
 use Rattle.layout.specs.declared.Header.{Header}
 use Rattle.layout.specs.declared.Place.{Place}
 use Rattle.layout.specs.Layout.{first, Headed, height as heightOf}
-use Rattle.stack.specs.Runs.{Stacked, Covers}
+use Rattle.stack.specs.Entries.{Stacked, Covers}
 use Rattle.stack.specs.Calls.{Located}
 use Rattle.stack.proofs.Places.{own-height}
 

@@ -8,7 +8,7 @@ use Rattle.history.specs.declared.Minimum.{Minimum}
 use Rattle.layout.specs.declared.Held.{Held}
 use Rattle.layout.specs.declared.Place.{Place}
 use Rattle.layout.specs.Layout.{rows, height}
-use Rattle.stack.specs.Runs.{above, entry, Stacked, Covers, Rests}
+use Rattle.stack.specs.Entries.{above, entry, Stacked, Covers, Rests}
 use Rattle.stack.proofs.Places.{first-rises}
 
 module _ {w : List ℕ} {n : ℕ} (s : Stacked w n) where

@@ -14,11 +14,11 @@ use Rattle.layout.specs.declared.Held.{Held}
 use Rattle.layout.specs.declared.Place.{Place}
 use Rattle.layout.specs.declared.Header.{Header}
 use Rattle.layout.specs.Layout.{height, first, Headed}
-use Rattle.stack.specs.Runs.{above, least, Stacked, Rests}
+use Rattle.stack.specs.Entries.{above, least, Stacked, Rests}
 use Rattle.stack.specs.Calls.{TakenOver, Topped, Lowered}
 use Rattle.history.proofs.Choice.{lower-as, monotone, no-smaller}
 use Rattle.stack.proofs.Places.{own-height, first-rises, least-rises}
-use Rattle.stack.proofs.Growth.{Grown, grown, stacked-grown, top-grown, below-grown}
+use Rattle.stack.proofs.NewTop.{Grown, grown, stacked-grown, top-grown, below-grown}
 
 module _ (w : List ℕ) (m : Minimum) (r : Header) (k : Place) (read : Headed w r) (over : TakenOver w (r .height) (m .value) k) where
   -- no entry below k is taken over

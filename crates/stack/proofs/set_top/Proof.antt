@@ -8,7 +8,7 @@ use mir.Val.{SFits}
 use mir.Facts.{toZ-ofZ}
 use Rattle.signed.specs.Word.{wordOf, valueOf}
 use Rattle.signed.proofs.Offset.{back}
-use Rattle.stack.proofs.Growth.{topped}
+use Rattle.stack.proofs.NewTop.{topped}
 use Rattle.stack.proofs.set_top.Statement.{statement}
 use Rattle.stack.proofs.set_top.Tie as tie
 

@@ -18,7 +18,7 @@ use Rattle.layout.specs.Layout.{rows, capacity, height, position, leastAt}
 use Rattle.table.specs.Marks.{Linked, activeIn, Above}
 use Rattle.table.specs.Calls.{Inserted}
 use Rattle.table.proofs.Stays.{Apart, linked-apart, active-apart}
-use Rattle.stack.specs.Runs.{Stacked, Rests, entry}
+use Rattle.stack.specs.Entries.{Stacked, Rests, entry}
 use Rattle.stack.specs.Calls.{Pushed, Topping}
 use Rattle.stack.proofs.Alike.{Alike, stacked-same, rests-same}
 use Rattle.stack.proofs.Rows.{rests-unique, top-rests, joined}

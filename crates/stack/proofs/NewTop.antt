@@ -15,7 +15,7 @@ use Rattle.layout.specs.declared.Held.{Held}
 use Rattle.layout.specs.declared.Place.{Place}
 use Rattle.layout.specs.Layout.{rows, capacity, height, leastWord, leastAt, first}
 use Rattle.signed.specs.Word.{valueOf}
-use Rattle.stack.specs.Runs.{above, least, entry, Stacked, Rests}
+use Rattle.stack.specs.Entries.{above, least, entry, Stacked, Rests}
 use Rattle.stack.specs.Calls.{Topped}
 use Rattle.stack.proofs.Alike.{Alike, first-alike, least-alike, entry-alike}
 
