@@ -21,7 +21,7 @@ use Rattle.history.specs.Standings.{eventOf, nextStanding}
 use Rattle.history.specs.Refusals.{refusal}
 use Rattle.history.specs.Histories.{History, presentOf, sessionOf, among, isActive, closed}
 use Rattle.history.specs.Sound.{Sound}
-use Rattle.history.proofs.Order.{clash}
+use Rattle.laws.proofs.Tests.{clash, refuted}
 use Rattle.history.proofs.Steps.{refusal-own}
 use Rattle.history.proofs.Soundness.{rising-among, struck-one, was-unmarked}
 use Rattle.layout.specs.declared.Held.{Held}
@@ -30,7 +30,6 @@ use Rattle.table.specs.declared.Found.{Found}
 use Rattle.table.specs.declared.Found.the-variants as found
 use Rattle.table.specs.Marks.{Live}
 use Rattle.table.specs.Calls.{Sought, Released}
-use Rattle.table.proofs.Positions.{refuted}
 use Rattle.table.proofs.Active.{live-among, not-among}
 use Rattle.stack.specs.declared.Low.{Low}
 use Rattle.stack.specs.declared.Low.the-variants as low

@@ -12,7 +12,7 @@ use Rattle.history.specs.declared.Command.{Command}
 use Rattle.history.specs.Refusals.{refusal}
 use Rattle.history.specs.Histories.{History, Stepped, sessionOf, isActive, step, bookkeeper}
 use Rattle.history.specs.Sound.{Sound}
-use Rattle.history.proofs.Order.{clash}
+use Rattle.laws.proofs.Tests.{clash}
 use Rattle.history.proofs.Steps.{refusal-unopened, refusal-other, step-refused, step-words}
 use Rattle.history.proofs.Soundness.{step-sound}
 use Rattle.runs.specs.Runs.{isOwn, Call}

@@ -4,9 +4,9 @@ use mathlib.Core.Path.{_≡_, sym, ap, _∙_}
 use mathlib.Core.Bool.{Bool, true, false, cond}
 use lib.IntN.{ℤ}
 use lib.Signed.{leZ}
+use Rattle.laws.proofs.Order.{leZ-trans, leZ-total}
 use Rattle.history.specs.declared.Minimum.{Minimum}
 use Rattle.history.specs.Minima.{takesOver, lower}
-use Rattle.history.proofs.Order.{leZ-trans, leZ-total}
 
 -- what takes over from a value takes over from a larger one
 pub monotone : (v a b : ℤ) → leZ a b ≡ true → takesOver v a ≡ true → takesOver v b ≡ true

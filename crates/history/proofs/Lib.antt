@@ -1,4 +1,3 @@
-pub mod Order
 pub mod Choice
 pub mod Lowest
 pub mod Steps

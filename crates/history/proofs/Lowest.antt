@@ -3,18 +3,18 @@
 use mathlib.Core.Path.{_≡_, refl, sym, ap, _∙_}
 use mathlib.Core.Bool.{Bool, true, false, cond}
 use mathlib.Core.List.{List, [], _∷_, _++_, append-assoc, append-nil}
-use mathlib.Core.Logic.{_⊎_, inl, inr, ⊎-elim}
 use Prim.Native.Nat.{ℕ, _+_, _-_, _<_, _≤_}
-use native.Mathlib.Decide.{ℕ-discrete, decLt}
+use native.Mathlib.Decide.{ℕ-discrete}
 use native.Mathlib.Omega.{arith}
 use lib.IntN.{ℤ, pos}
 use lib.Signed.{leZ}
 use lib.ListN.{length, take, drop, length-append, length-drop, take-append-drop, List·getD-append}
 use lib.Seq.{drop-append-le, drop-length, getD-at, length-take-le, getD-take}
+use Rattle.laws.proofs.Tests.{clash, neither-below}
+use Rattle.laws.proofs.Order.{leZ-refl, leZ-trans}
 use Rattle.history.specs.declared.Position.{Position}
 use Rattle.history.specs.declared.Minimum.{Minimum}
 use Rattle.history.specs.Minima.{takesOver, lower, standsAt, next, lowest, presentAt, valueAt, lastOf, minimum, Least}
-use Rattle.history.proofs.Order.{clash, leZ-refl, leZ-trans}
 use Rattle.history.proofs.Choice.{no-larger, no-smaller}
 
 -- one value more at the end of a list of values
@@ -141,14 +141,7 @@ not-before vs {d = d} {e} l m p =
 
 -- AND NOTHING ELSE IS: "for a given tap the dip has one value and one place"
 pub least-only : (vs : List ℤ) (i : Position) (d e : Minimum) → Least vs i d → Least vs i e → d ≡ e
-least-only vs i d e l m =
-    elim (ℕ-discrete (d .place .0) (e .place .0)) [
-      | yes p ↦ same-place vs l m p
-      | no p ↦ absurd (⊎-elim (λ (q : d .place .0 < e .place .0). not-before vs l m q) (λ (q : e .place .0 < d .place .0). not-before vs m l q) (apart p))
-    ]
-  where
-    apart : {a b : ℕ} → (a ≡ b → ⊥) → (a < b) ⊎ (b < a)
-    apart {a} {b} p = elim (decLt a b) [ yes q ↦ inl q | no q ↦ inr (omega (arith, p, q)) ]
+least-only vs i d e l m = same-place vs l m (neither-below (not-before vs l m) (not-before vs m l))
 
 -- of two positions, the later one's minimum is no lower
 pub minimum-rises : (vs : List ℤ) (i j : Position) → 0 < i .0 → i .0 ≤ j .0 → j .0 ≤ length vs

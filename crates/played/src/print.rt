@@ -18,7 +18,7 @@ fn signed(v: i32) {
     if v < 0 {
         text(b"-");
     }
-    number(words::magnitude(v));
+    number(signed::magnitude(v));
 }
 
 fn position(i: Position) {

@@ -8,7 +8,7 @@ use borrow.Author.Tests.{lt-ltb, le-ltb}
 use Rattle.layout.specs.declared.Held.{Held}
 use Rattle.layout.specs.Layout.{leastAt, first}
 use Rattle.history.specs.Minima.{standsAt}
-use Rattle.stack.specs.Runs.{least, above}
+use Rattle.stack.specs.Entries.{least, above}
 use Rattle.ranges.specs.declared.Run.{Run}
 use Rattle.ranges.specs.Calls.{startOf, Advanced}
 

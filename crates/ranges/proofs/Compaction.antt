@@ -24,7 +24,7 @@ use Rattle.layout.specs.Layout.{rows, capacity, height, position, flag, leastWo
 use Rattle.table.specs.Marks.{activeBelow, Above}
 use Rattle.table.specs.Calls.{Cleared}
 use Rattle.table.proofs.Active.{activeBelow-length}
-use Rattle.stack.specs.Runs.{Covers, entry, least, above}
+use Rattle.stack.specs.Entries.{Covers, entry, least, above}
 use Rattle.stack.proofs.Rows.{rests-unique}
 use Rattle.ranges.specs.declared.Run.{Run}
 use Rattle.ranges.specs.Holding.{Holds, positionOf, roomFor}

@@ -1,4 +1,4 @@
-pub mod Growth
+pub mod Appending
 pub mod Upkeep
 pub mod Advancing
 pub mod Compaction

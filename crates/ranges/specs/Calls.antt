@@ -14,7 +14,7 @@ use Rattle.layout.specs.declared.Held.{Held}
 use Rattle.layout.specs.declared.Place.{Place}
 use Rattle.layout.specs.Layout.{rows, capacity, height, position, flag, leastAt, first, Room}
 use Rattle.table.specs.Marks.{Linked, Above}
-use Rattle.stack.specs.Runs.{Stacked, least, above}
+use Rattle.stack.specs.Entries.{Stacked, least, above}
 use Rattle.stack.specs.Calls.{Beside}
 use Rattle.ranges.specs.declared.Run.{Run}
 use Rattle.ranges.specs.Holding.{Holds, roomFor}

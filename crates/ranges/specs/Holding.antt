@@ -9,7 +9,7 @@ use Rattle.history.specs.Minima.{minimum}
 use Rattle.layout.specs.declared.Held.{Held}
 use Rattle.layout.specs.Layout.{rows, position}
 use Rattle.table.specs.Marks.{Linked, activeIn}
-use Rattle.stack.specs.Runs.{Stacked, Rests}
+use Rattle.stack.specs.Entries.{Stacked, Rests}
 
 -- the position of a row
 abbrev pub positionOf : List ℕ → Held → Position

@@ -41,7 +41,7 @@ fn advance(area: &[u64], run: Run, held: Held, count: usize, top: usize) -> Run
     if top <= t {
         return run;
     }
-    let value = words::from_word(area[16 + 8 * t + 3]);
+    let value = signed::from_word(area[16 + 8 * t + 3]);
     let at = (area[16 + 8 * t + 4] % 4294967296) as u32;
     let low = Minimum {
         value,

@@ -1,4 +1,3 @@
-pub mod Bytes
-pub mod Ways
+pub mod Readings
 pub mod Lengths
 pub mod Examples

@@ -3,10 +3,10 @@ use mathlib.Core.Bool.{cond}
 use Prim.Native.Nat.{ℕ, _+_}
 use lib.Dec.{eqb}
 use Rattle.history.specs.declared.Command.{Command}
+use Rattle.signed.specs.TwosComplement.{signedOf}
 use Rattle.reading.specs.declared.Kind.{Kind}
 use Rattle.reading.specs.declared.KindByte.{KindByte}
 use Rattle.reading.specs.declared.KindByte.the-variants.{Known, Unknown}
-use Rattle.reading.specs.Numbers.{signedOf}
 
 -- the column "kind byte": 01 Value, 02 Mark, 03 Query, 04 Close
 abbrev pub kindOf : ℕ → KindByte
@@ -28,7 +28,8 @@ argumentBytes Kind.Close = 4
 abbrev pub lengthOf : Kind → ℕ
 lengthOf kind = 1 + argumentBytes kind
 
--- the columns "command" and "argument", of the unsigned number that the argument's bytes make: "the value" of a Value, "a position" of a Query and a Close
+-- the columns "command" and "argument", of the unsigned number that the argument's bytes make: "the value" of a Value, "a position" of a Query and a Close.
+-- "Value's is two's complement, the others are unsigned"
 abbrev pub commandOf : Kind → ℕ → Command
 commandOf Kind.Value n = Command.Value (signedOf n)
 commandOf Kind.Mark n = Command.Mark

@@ -7,12 +7,12 @@ use lib.Dec.{ltb}
 use lib.ListN.{length, take}
 use Rattle.history.specs.declared.Command.{Command}
 use Rattle.history.specs.Replies.{numberOf}
+use Rattle.endian.specs.Numbers.{littleEndian}
 use Rattle.reading.specs.declared.Kind.{Kind}
 use Rattle.reading.specs.declared.KindByte.{KindByte}
 use Rattle.reading.specs.declared.KindByte.the-variants.{Known, Unknown}
 use Rattle.reading.specs.declared.Reading.{Reading}
 use Rattle.reading.specs.declared.Reading.the-variants.{End, Next, Refused}
-use Rattle.reading.specs.Numbers.{littleEndian}
 use Rattle.reading.specs.Kinds.{kindOf, argumentBytes, lengthOf, commandOf}
 
 -- what a reading finds: the paper's number where it is refused, the command where there is one, and how many bytes it uses

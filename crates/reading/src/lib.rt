@@ -1,9 +1,6 @@
-// Command bytes: the next command of a stream, or why it cannot be read. What the bytes mean is said in specs/, from document 01 alone;
-// what a command does is not known here.
+// Command bytes: the next command of a stream, or why it cannot be read. What the bytes mean is said in specs/, from document 01 alone, with the
+// numbers of `endian` and `signed`; what a command does is not known here.
 ghost use mathlib.Core.Path.{_≡_};
-ghost use Prim.Native.Nat.{_<_, _≤_};
-ghost use lib.ListN.{length};
-ghost use Rattle.reading.specs.Numbers.{littleEndian, signedOf};
 ghost use Rattle.reading.specs.Kinds.{kindOf, argumentBytes, commandOf};
 ghost use Rattle.reading.specs.Outcomes.{readAs, readingOf};
 use history::Command;
@@ -56,41 +53,11 @@ fn argument_bytes(kind: Kind) -> usize
     }
 }
 
-fn wide(byte: u8) -> u32
-    ensures { λ r. ⌜ (r ≡ byte) × (r < 256) ⌝ }
-{
-    byte as u32
-}
-
-// From the most significant byte, the last, down to the first.
-fn little_endian(bytes: &[u8]) -> u32
-    requires { ⌜ length (now bytes) ≤ 4 ⌝ }
-    ensures { λ r. ⌜ r ≡ littleEndian (now (bytes .entry)) ⌝ }
-{
-    let mut number: u32 = 0;
-    let mut i = bytes.len();
-    while 0 < i {
-        i -= 1;
-        number = wide(bytes[i]) + 256 * number;
-    }
-    number
-}
-
-fn signed_of(number: u32) -> i32
-    ensures { λ r. ⌜ r ≡ signedOf number ⌝ }
-{
-    if number < 2147483648 {
-        number as i32
-    } else {
-        (number as i64 - 4294967296) as i32
-    }
-}
-
 fn command_of(kind: Kind, argument: u32) -> Command
     ensures { λ r. ⌜ r ≡ commandOf kind argument ⌝ }
 {
     match kind {
-        Kind::Value => Command::Value(signed_of(argument)),
+        Kind::Value => Command::Value(signed::signed_of(argument)),
         Kind::Mark => Command::Mark,
         Kind::Query => Command::Query(Position(argument)),
         Kind::Close => Command::Close(Position(argument)),
@@ -113,7 +80,7 @@ pub fn read(rest: &[u8]) -> Reading
         return Reading::Refused(Refusal::ArgumentCutOff);
     }
     let length = 1 + width;
-    let argument = little_endian(&rest[1..length]);
+    let argument = endian::little_endian(&rest[1..length]);
     Reading::Next {
         command: command_of(kind, argument),
         length,

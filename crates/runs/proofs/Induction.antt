@@ -2,19 +2,20 @@
 -- keep it. A call lent the start's words leaves words that keep the paper that follows; a call lent others alters neither these, nor the start's, nor the paper.
 -- So what is left to show of a machine is what one call does: `OneCall`.
 use mathlib.Core.Path.{_≡_, refl, sym, _∙_}
-use mathlib.Core.Bool.{Bool, true, false, cond, false≢true}
+use mathlib.Core.Bool.{Bool, true, false, cond}
 use mathlib.Core.List.{List, [], _∷_}
 use Prim.Native.Nat.{ℕ}
 use native.Mathlib.Decide.{ℕ-discrete}
 use lib.Dec.{eqb}
 use lib.ListN.{length}
 use borrow.Author.Tests.{eq-eqb, ne-eqb, eqb-true}
+use Rattle.laws.proofs.Tests.{clash}
 use Rattle.runs.specs.Runs.{Bookkeeper, AsLent, isOwn, Call, paperAfter, Made, Agrees, EachCall}
 
 -- the start's words are of the opened length, which is not 0
 pub own-length : (n : ℕ) (lent : List ℕ) → isOwn n lent ≡ true → (n ≡ 0 → ⊥) × (length lent ≡ n)
 own-length n lent e = elim (ℕ-discrete n 0) [
-  | yes z ↦ absurd (false≢true (sym (rw (eq-eqb n 0 z)) ∙ e))
+  | yes z ↦ clash e (rw (eq-eqb n 0 z))
   | no z ↦ (z, eqb-true (length lent) n (rw (ne-eqb n 0 z) at e))
 ]
 
@@ -76,7 +77,7 @@ module _ (B : Bookkeeper) (Sound : B .Paper → Type 0) (Keeps : B .Paper → Li
     step true o =
         let k = one .keeps h first c (i .sound) called (rw (i .opened) o) (owned o) in
         let r = one .rest later first (c .left) k in (
-          record { tells = said .0; session = said .1; rest = r; long = one .long s c d; elsewhere = λ e. absurd (false≢true (sym e ∙ o)) },
+          record { tells = said .0; session = said .1; rest = r; long = one .long s c d; elsewhere = λ e. clash o e },
           record { session = said .1; sound = after; opened = still; rest = r; keeps = λ _. k },
         )
     step false o =

@@ -8,8 +8,8 @@ use Rattle.history.specs.declared.Minimum.{Minimum}
 use Rattle.layout.specs.declared.Held.{Held}
 use Rattle.layout.specs.declared.Place.{Place}
 use Rattle.layout.specs.Layout.{rows, height, first, Fits}
-use Rattle.words.specs.Word.{valueOf}
-use Rattle.stack.specs.Runs.{above, least, entry, Stacked, Rests}
+use Rattle.signed.specs.Word.{valueOf}
+use Rattle.stack.specs.Entries.{above, least, entry, Stacked, Rests}
 
 -- the entries at the places below k have the same words
 pub record Alike (w v : List ℕ) (k : ℕ) : Type 0 where

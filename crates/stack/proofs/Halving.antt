@@ -5,13 +5,13 @@ use mathlib.Core.Logic.{⊎-elim}
 use Prim.Native.Nat.{ℕ, _+_, _-_, _/_, _%_, _<_, _≤_}
 use native.Mathlib.Nat.{eq-zero-or-pos}
 use native.Mathlib.Omega.{arith}
+use Rattle.laws.proofs.Tests.{lt-or-ge}
 use Rattle.layout.specs.declared.Held.{Held}
 use Rattle.layout.specs.declared.Header.{Header}
 use Rattle.layout.specs.declared.Place.{Place}
 use Rattle.layout.specs.Layout.{first, Headed, height as heightOf}
-use Rattle.stack.specs.Runs.{Stacked, Covers}
+use Rattle.stack.specs.Entries.{Stacked, Covers}
 use Rattle.stack.specs.Calls.{Located}
-use Rattle.words.proofs.Offset.{lt-or-ge}
 use Rattle.stack.proofs.Places.{own-height}
 
 -- of the runs at the places below a height, the one at `low` starts at row h or below it, and in a stack the one `size` places on above it

@@ -5,6 +5,6 @@ pub mod Looking
 pub mod Topmost
 pub mod Popping
 pub mod Alike
-pub mod Growth
+pub mod NewTop
 pub mod ValueComes
 pub mod RowComes

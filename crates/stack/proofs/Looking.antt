@@ -12,7 +12,7 @@ use Rattle.layout.specs.declared.Header.{Header}
 use Rattle.layout.specs.Layout.{leastAt, Headed}
 use Rattle.stack.specs.declared.Low.{Low}
 use Rattle.stack.specs.declared.Low.the-variants.{At}
-use Rattle.stack.specs.Runs.{least, entry, Stacked, Rests}
+use Rattle.stack.specs.Entries.{least, entry, Stacked, Rests}
 use Rattle.stack.specs.Calls.{Located, Looked}
 use Rattle.stack.proofs.Places.{own-height}
 use Rattle.stack.proofs.Rows.{rests-unique}

@@ -8,11 +8,11 @@ use native.Mathlib.Nat.{eq-or-lt-of-le}
 use native.Mathlib.Numerals.{add-one}
 use native.Mathlib.Omega.{arith}
 use lib.Signed.{leZ}
+use Rattle.laws.proofs.Order.{leZ-refl, leZ-trans}
 use Rattle.layout.specs.declared.Place.{Place}
 use Rattle.layout.specs.declared.Header.{Header}
 use Rattle.layout.specs.Layout.{height, first, Headed}
-use Rattle.stack.specs.Runs.{above, least, Stacked}
-use Rattle.history.proofs.Order.{leZ-refl, leZ-trans}
+use Rattle.stack.specs.Entries.{above, least, Stacked}
 
 -- the height that is read of a stack's header is the stack's
 pub own-height : {w : List ℕ} {r : Header} {n : ℕ} → Headed w r → Stacked w n → r .height ≡ height w

@@ -9,7 +9,7 @@ use native.Mathlib.Omega.{arith}
 use lib.IntN.{ℤ}
 use Rattle.history.specs.Minima.{takesOver}
 use Rattle.layout.specs.declared.Place.{Place}
-use Rattle.stack.specs.Runs.{least}
+use Rattle.stack.specs.Entries.{least}
 use Rattle.stack.specs.Calls.{TakenOver}
 
 -- v takes over the entries from place k up to the height

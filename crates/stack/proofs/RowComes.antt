@@ -10,9 +10,9 @@ use lib.Seq.{getD-set-same, getD-set-other}
 use Rattle.history.specs.declared.Minimum.{Minimum}
 use Rattle.layout.specs.declared.Header.{Header}
 use Rattle.layout.specs.Layout.{rows, height, Fits, Headed}
-use Rattle.stack.specs.Runs.{Stacked}
+use Rattle.stack.specs.Entries.{Stacked}
 use Rattle.stack.specs.Calls.{Topped, Pushed}
-use Rattle.stack.proofs.Growth.{Grown, grown, stacked-grown, top-grown, below-grown}
+use Rattle.stack.proofs.NewTop.{Grown, grown, stacked-grown, top-grown, below-grown}
 
 module _ (w : List ℕ) (m : Minimum) (r : Header) (read : Headed w r) where
   -- where each row has an entry of its own already, there is no row for which to push one

@@ -1,15 +1,14 @@
 -- No row of a stack is in two runs, so the stack has no two minima for it; the top's run has the last row, and takes in the next one.
 use mathlib.Core.Path.{_≡_, sym, ap, _∙_, refl}
 use mathlib.Core.List.{List}
-use mathlib.Core.Logic.{⊎-elim}
 use Prim.Native.Nat.{ℕ, _+_, _<_, _≤_}
 use native.Mathlib.Omega.{arith}
+use Rattle.laws.proofs.Tests.{neither-below}
 use Rattle.history.specs.declared.Minimum.{Minimum}
 use Rattle.layout.specs.declared.Held.{Held}
 use Rattle.layout.specs.declared.Place.{Place}
 use Rattle.layout.specs.Layout.{rows, height}
-use Rattle.words.proofs.Offset.{lt-or-ge}
-use Rattle.stack.specs.Runs.{above, entry, Stacked, Covers, Rests}
+use Rattle.stack.specs.Entries.{above, entry, Stacked, Covers, Rests}
 use Rattle.stack.proofs.Places.{first-rises}
 
 module _ {w : List ℕ} {n : ℕ} (s : Stacked w n) where
@@ -19,11 +18,7 @@ module _ {w : List ℕ} {n : ℕ} (s : Stacked w n) where
 
   -- no two runs share a row
   pub covers-unique : (h : Held) (a b : Place) → Covers w a h → Covers w b h → a ≡ b
-  covers-unique h a b x y =
-      let l : a .0 < b .0 → ⊥ = not-below h a b x y in
-      let r : b .0 < a .0 → ⊥ = not-below h b a y x in
-      ap (λ (i : ℕ). record { 0 = i })
-      (⊎-elim (λ p. absurd (l p)) (λ p. ⊎-elim (λ q. absurd (r q)) (λ q. omega arith) (lt-or-ge (b .0) (a .0))) (lt-or-ge (a .0) (b .0)))
+  covers-unique h a b x y = ap (λ (i : ℕ). record { 0 = i }) (neither-below (not-below h a b x y) (not-below h b a y x))
 
   -- the stack has one minimum for a row
   pub rests-unique : {h : Held} {d e : Minimum} → Rests w h d → Rests w h e → d ≡ e

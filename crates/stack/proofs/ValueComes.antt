@@ -1,38 +1,32 @@
 -- A value comes. It takes over the entries from place k up, since the values do not fall towards the top, and no entry below k.
 -- The rows of the runs from k up are then in the run of the new top; those of the runs below keep their minimum.
-use mathlib.Core.Path.{_≡_, refl, sym, ap, _∙_}
-use mathlib.Core.Bool.{Bool, true, false}
+use mathlib.Core.Path.{_≡_, refl, ap, _∙_}
+use mathlib.Core.Bool.{true, false}
 use mathlib.Core.List.{List}
 use mathlib.Core.Logic.{⊎-elim}
 use Prim.Native.Nat.{ℕ, _-_, _<_, _≤_}
 use native.Mathlib.Omega.{arith}
 use lib.Signed.{leZ}
+use Rattle.laws.proofs.Tests.{clash, refuted, lt-or-ge}
 use Rattle.history.specs.declared.Minimum.{Minimum}
 use Rattle.history.specs.Minima.{takesOver, lower}
 use Rattle.layout.specs.declared.Held.{Held}
 use Rattle.layout.specs.declared.Place.{Place}
 use Rattle.layout.specs.declared.Header.{Header}
 use Rattle.layout.specs.Layout.{height, first, Headed}
-use Rattle.words.proofs.Offset.{lt-or-ge}
-use Rattle.stack.specs.Runs.{above, least, Stacked, Rests}
+use Rattle.stack.specs.Entries.{above, least, Stacked, Rests}
 use Rattle.stack.specs.Calls.{TakenOver, Topped, Lowered}
 use Rattle.history.proofs.Choice.{lower-as, monotone, no-smaller}
 use Rattle.stack.proofs.Places.{own-height, first-rises, least-rises}
-use Rattle.stack.proofs.Growth.{Grown, grown, stacked-grown, top-grown, below-grown}
+use Rattle.stack.proofs.NewTop.{Grown, grown, stacked-grown, top-grown, below-grown}
 
 module _ (w : List ℕ) (m : Minimum) (r : Header) (k : Place) (read : Headed w r) (over : TakenOver w (r .height) (m .value) k) where
   -- no entry below k is taken over
   stays : {n : ℕ} → Stacked w n → (t : Place) → t .0 < k .0 → takesOver (m .value) (least w t) ≡ false
-  stays s t l = go (takesOver (m .value) (least w t)) refl
-    where
-      last : Place
-      last = record { 0 = k .0 - 1 }
-
-      go : (b : Bool) → takesOver (m .value) (least w t) ≡ b → b ≡ false
-      go true e =
-          let h : leZ (least w t) (least w last) ≡ true = least-rises s t last (omega arith) (omega (arith, own-height read s)) in
-          sym (monotone (m .value) (least w t) (least w last) h e) ∙ over .stays last (omega arith)
-      go false e = refl
+  stays s t l =
+      let last : Place = record { 0 = k .0 - 1 } in
+      let h : leZ (least w t) (least w last) ≡ true = least-rises s t last (omega arith) (omega (arith, own-height read s)) in
+      refuted _ (λ e. clash (monotone (m .value) (least w t) (least w last) h e) (over .stays last (omega arith)))
 
   -- where no entry is taken over, every row keeps its minimum
   pub unmoved : r .height ≤ k .0 → Lowered w w m

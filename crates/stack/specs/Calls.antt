@@ -14,7 +14,7 @@ use Rattle.layout.specs.declared.Place.{Place}
 use Rattle.layout.specs.Layout.{rows, capacity, height, leastAt, Fits}
 use Rattle.stack.specs.declared.Low.{Low}
 use Rattle.stack.specs.declared.Low.the-variants.{At}
-use Rattle.stack.specs.Runs.{Stacked, Covers, Rests, least, entry}
+use Rattle.stack.specs.Entries.{Stacked, Covers, Rests, least, entry}
 
 -- word i is none of the stack's: neither its height nor part of an entry at one of the places given
 pub record Beside (i : ℕ) (from to : ℕ) : Type 0 where

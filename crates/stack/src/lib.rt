@@ -29,7 +29,7 @@ fn taken_over(area: &[u64], height: usize, v: i32) -> Place
 {
     let mut k = height;
     while 0 < k {
-        let least = words::from_word(area[16 + 8 * (k - 1) + 3]);
+        let least = signed::from_word(area[16 + 8 * (k - 1) + 3]);
         if takes_over(v, least) {
             k -= 1;
         } else {
@@ -46,7 +46,7 @@ fn set_top(area: &mut [u64], top: Place, m: Minimum)
 {
     let t = top.0;
     let place = m.place;
-    area[16 + 8 * t + 3] = words::to_word(m.value);
+    area[16 + 8 * t + 3] = signed::to_word(m.value);
     area[16 + 8 * t + 4] = place.0 as u64;
     area[2] = (t + 1) as u64;
 }
@@ -131,7 +131,7 @@ pub fn minimum_of(area: &[u64], held: Held) -> Low
         let at = area[16 + 8 * t + 4];
         if at < 4294967296 {
             return Low::At(Minimum {
-                value: words::from_word(least),
+                value: signed::from_word(least),
                 place: Position(at as u32),
             });
         }

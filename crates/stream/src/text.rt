@@ -51,7 +51,7 @@ pub fn put_signed(line: Line, v: i32) -> Line
     ensures { λ r. ⌜ Adds line (signedText v) 21 r ⌝ }
 {
     if v < 0 {
-        return put_number(put(line, b"-"), words::magnitude(v));
+        return put_number(put(line, b"-"), signed::magnitude(v));
     }
-    put_number(line, words::magnitude(v))
+    put_number(line, signed::magnitude(v))
 }

@@ -9,6 +9,7 @@ use native.Mathlib.Omega.{arith}
 use lib.Dec.{eqb}
 use lib.ListN.{length, length-append}
 use borrow.Author.Tests.{eq-eqb, ne-eqb, eqb-false}
+use Rattle.laws.proofs.Tests.{refuted, either}
 use Rattle.history.specs.declared.Position.{Position}
 use Rattle.history.specs.Histories.{among}
 use Rattle.layout.specs.declared.Held.{Held}
@@ -17,7 +18,7 @@ use Rattle.table.specs.declared.Found.{Found}
 use Rattle.table.specs.declared.Found.the-variants.{At, Nothing}
 use Rattle.table.specs.Marks.{Linked, Live, activeBelow, activeIn}
 use Rattle.table.specs.Calls.{Sought}
-use Rattle.table.proofs.Positions.{refuted, either, unless, length-unless, among-unless, among-append}
+use Rattle.table.proofs.Positions.{unless, length-unless, among-unless, among-append}
 
 -- whether row n is closed
 abbrev pub closed : List ℕ → ℕ → Bool

@@ -3,8 +3,8 @@ use mathlib.Core.Path.{_≡_, ap}
 use mathlib.Core.List.{List}
 use Prim.Native.Nat.{ℕ, _-_, _<_, _≤_}
 use native.Mathlib.Nat.{le-trans}
-use native.Mathlib.Decide.{ℕ-discrete, decLt}
 use native.Mathlib.Omega.{arith}
+use Rattle.laws.proofs.Tests.{neither-below}
 use Rattle.history.specs.declared.Position.{Position}
 use Rattle.layout.specs.declared.Held.{Held}
 use Rattle.layout.specs.Layout.{link}
@@ -40,13 +40,9 @@ carry {k} same (next z m c) = next z m (rw (same (record { 0 = k - 1 }) (omega a
 -- rows at one position are one row
 pub same-row : (w : List ℕ) (p : Position) (g h : Held) → Linked w → Live w p g → Live w p h → g .0 ≡ h .0
 same-row w p g h k a b =
-    elim (ℕ-discrete (g .0) (h .0)) [
-      | yes e ↦ e
-      | no n ↦ elim (decLt (g .0) (h .0)) [
-        | yes l ↦ absurd (let r = k .rising g h l (b .row) in omega arith)
-        | no m ↦ absurd (let r = k .rising h g (omega arith) (a .row) in omega arith)
-      ]
-    ]
+    neither-below
+    (λ l. let r = k .rising g h l (b .row) in omega arith)
+    (λ l. let r = k .rising h g l (a .row) in omega arith)
 
 -- a search that finds nothing is right where no active mark can be there
 pub nothing : (w : List ℕ) (p : Position) → (Linked w → (h : Held) → Live w p h → ⊥) → Sought w p Nothing

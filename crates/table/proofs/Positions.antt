@@ -2,7 +2,6 @@
 use mathlib.Core.Path.{_≡_, refl, sym}
 use mathlib.Core.Bool.{Bool, true, false, cond, _||_, or-assoc, or-false, false≢true}
 use mathlib.Core.List.{List, [], _∷_, _++_}
-use mathlib.Core.Logic.{_⊎_, inl, inr}
 use Prim.Native.Nat.{_≤_}
 use native.Mathlib.Omega.{arith}
 use lib.Dec.{eqb}
@@ -10,16 +9,6 @@ use lib.ListN.{length}
 use borrow.Author.Tests.{eq-eqb, ne-eqb, eqb-true}
 use Rattle.history.specs.declared.Position.{Position}
 use Rattle.history.specs.Histories.{among, without}
-
--- a test that cannot hold fails
-pub refuted : (t : Bool) → (t ≡ true → ⊥) → t ≡ false
-refuted true n = absurd (n refl)
-refuted false n = refl
-
--- where one test or the other holds, the one holds or the other
-pub either : (a b : Bool) → a || b ≡ true → (a ≡ true) ⊎ (b ≡ true)
-either true b e = inl e
-either false b e = inr e
 
 -- a position, unless the test holds
 abbrev pub unless : Bool → Position → List Position

@@ -11,8 +11,9 @@ use Rattle.table.proofs.Scaled.{bucket-below}
 use Rattle.table.proofs.Chains.{carry}
 use Rattle.table.proofs.Active.{activeBelow-same}
 
--- v has the numbers of w and, in the rows that there is room for, its positions, links and heads; its height fits, its flags are free
-pub record Alike (w v : List ℕ) : Type 0 where
+-- v is linked as w is: it has the numbers of w and, in the rows that there is room for, its positions, links and heads; its height fits, its
+-- flags are free
+pub record LinkedAs (w v : List ℕ) : Type 0 where
   pub long : length v ≡ length w
   pub used : rows v ≡ rows w
   pub size : capacity v ≡ capacity w
@@ -21,9 +22,9 @@ pub record Alike (w v : List ℕ) : Type 0 where
   pub links : (h : Held) → h .0 < capacity w → link v h ≡ link w h
   pub heads : (b : ℕ) → b < capacity w → head v b ≡ head w b
 
--- words alike a table are a table
-pub linked-alike : (w v : List ℕ) → Alike w v → Linked w → Linked v
-linked-alike w v a k =
+-- words that are linked as a table is are a table
+pub linked-as : (w v : List ℕ) → LinkedAs w v → Linked w → Linked v
+linked-as w v a k =
     let full = k .fits .full in
     record {
       fits = record {
@@ -51,7 +52,7 @@ module _ (w v : List ℕ) (same : Apart w v) where
   -- the table stays a table
   pub linked-apart : length v ≡ length w → height v ≤ rows v → Linked w → Linked v
   linked-apart long high k =
-      linked-alike w v (record {
+      linked-as w v (record {
         long = long;
         used = early 0 (λ e. omega arith) (omega arith);
         size = early 1 (λ e. omega arith) (omega arith);

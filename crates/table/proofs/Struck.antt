@@ -15,7 +15,7 @@ use Rattle.table.specs.Marks.{Linked, activeBelow, activeIn, Live}
 use Rattle.table.specs.Calls.{Released}
 use Rattle.table.proofs.Positions.{without-append, without-other, without-same}
 use Rattle.table.proofs.Active.{closed, placed, own, activeBelow-same}
-use Rattle.table.proofs.Stays.{linked-alike}
+use Rattle.table.proofs.Stays.{linked-as}
 
 -- a position that none of the first n rows has is not there to strike
 absent : (w : List ℕ) (p : Position) (n : ℕ) → ((h : Held) → h .0 < n → p .0 ≡ position w h → ⊥) → without p (activeBelow w n) ≡ activeBelow w n
@@ -82,7 +82,7 @@ released w h l fits =
     let used : rows v ≡ rows w = kept 0 (λ e. omega arith) in
     record {
       long = length-set w (16 + 8 * h .0 + 1) 0;
-      linked = linked-alike w v (record {
+      linked = linked-as w v (record {
         long = length-set w (16 + 8 * h .0 + 1) 0;
         used = used;
         size = kept 1 (λ e. omega arith);

@@ -1,6 +1,6 @@
 -- `ranges::append` meets its contract: after the insertion the top stands at the mark's place, or a new entry is pushed.
 use borrow.Author.Needs.{needs}
-use Rattle.ranges.proofs.Growth.{append-joined, append-pushed}
+use Rattle.ranges.proofs.Appending.{append-joined, append-pushed}
 use Rattle.ranges.proofs.append.Statement.{statement}
 use Rattle.ranges.proofs.append.Tie as tie
 

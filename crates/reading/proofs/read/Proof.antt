@@ -3,7 +3,7 @@ use borrow.Author.Needs.{needs}
 use mathlib.Core.Path.{sym, _∙_}
 use native.Mathlib.Omega.{arith}
 use lib.ListN.{length-take}
-use Rattle.reading.proofs.Ways.{Begins, at-end, unknown, four, cut-off, whole}
+use Rattle.reading.proofs.Readings.{Begins, at-end, unknown, four, cut-off, whole}
 use Rattle.reading.proofs.read.Statement.{statement}
 use Rattle.reading.proofs.read.Tie as tie
 

@@ -6,9 +6,9 @@ use borrow.Author.Needs.{needs}
 use mir.Syntax.{w32}
 use mir.Val.{SFits}
 use mir.Facts.{toZ-ofZ}
-use Rattle.words.specs.Word.{wordOf, valueOf}
-use Rattle.words.proofs.Offset.{back}
-use Rattle.stack.proofs.Growth.{topped}
+use Rattle.signed.specs.Word.{wordOf, valueOf}
+use Rattle.signed.proofs.Offset.{back}
+use Rattle.stack.proofs.NewTop.{topped}
 use Rattle.stack.proofs.set_top.Statement.{statement}
 use Rattle.stack.proofs.set_top.Tie as tie
 

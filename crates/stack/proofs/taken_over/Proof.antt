@@ -8,7 +8,7 @@ use mir.Syntax.{w32}
 use mir.Val.{toZ, ofZ}
 use mir.Facts.{toZ-ofZ}
 use Rattle.history.specs.Minima.{takesOver}
-use Rattle.stack.specs.Runs.{least}
+use Rattle.stack.specs.Entries.{least}
 use Rattle.stack.proofs.Popping.{Popped, none, one-more, stopped, emptied}
 use Rattle.stack.proofs.taken_over.Statement.{statement}
 use Rattle.stack.proofs.taken_over.Tie as tie
