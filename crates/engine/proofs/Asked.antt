@@ -16,11 +16,9 @@ use Rattle.history.specs.declared.Command.the-variants.{Query, Close}
 use Rattle.history.specs.declared.Refusal.the-variants.{NotActive}
 use Rattle.history.specs.declared.Reply.the-variants.{Lowest}
 use Rattle.history.specs.Minima.{standsAt, minimum}
-use Rattle.history.specs.Replies.{showing}
-use Rattle.history.specs.Standings.{eventOf, nextStanding}
-use Rattle.history.specs.Refusals.{refusal}
-use Rattle.history.specs.Histories.{History, presentOf, sessionOf, among, isActive, closed}
-use Rattle.history.specs.Sound.{Sound}
+use Rattle.history.specs.Replies.{showing, refusal}
+use Rattle.history.specs.Standings.{eventOf, transitionOf}
+use Rattle.history.specs.Histories.{History, presentOf, among, isActive, accept}
 use Rattle.laws.proofs.Tests.{clash, refuted}
 use Rattle.history.proofs.Steps.{refusal-own}
 use Rattle.history.proofs.Soundness.{rising-among, struck-one, was-unmarked}
@@ -36,7 +34,7 @@ use Rattle.stack.specs.declared.Low.the-variants as low
 use Rattle.stack.specs.Calls.{Looked}
 use Rattle.ranges.specs.Holding.{positionOf}
 use Rattle.ranges.proofs.Upkeep.{looked-minimum, released-holds}
-use Rattle.engine.specs.Keeping.{Keeps, Represents}
+use Rattle.engine.specs.Keeping.{Keeps}
 use Rattle.engine.specs.Contracts.{Does}
 use Rattle.engine.specs.Private.{refusedWith, acceptedWith, Seeks}
 use Rattle.engine.proofs.Doing.{ForEach, does-refused, does-accepted, own-of}
@@ -57,15 +55,15 @@ module _ (s : Session) (w : List ℕ) (i : Position) (z : s .words ≡ 0 → ⊥
   active-of c a-close h = refl
 
   -- 11, for a reason that of a history's words is that the position is not active
-  inactive : (c : Command) → Names i c → ForEach s w (λ h lent. among i (h .active) ≡ false)
-      → Does c s w w (refusedWith s NotActive)
+  inactive : (c : Command) → Names i c → ForEach s w (λ h first. among i (h .active) ≡ false)
+      → Does s c w w (refusedWith s NotActive)
   inactive c n f =
       does-refused c s w NotActive false (λ x. absurd (false≢true x)) (due-to c n false)
-      (λ h lent q r. due-to c n (isActive h c) ∙ ap (λ (b : Bool). cond b 0 11) (active-of c n h ∙ f h lent q r))
+      (λ h first q r. due-to c n (isActive h c) ∙ ap (λ (b : Bool). cond b 0 11) (active-of c n h ∙ f h first q r))
 
   -- the search found nothing
-  pub asked-nothing : (c : Command) → Names i c → (r : Found) → Seeks s w i r → r ≡ found.Nothing → Does c s w w (refusedWith s NotActive)
-  asked-nothing c n r q e = inactive c n (λ h lent y t.
+  pub asked-nothing : (c : Command) → Names i c → (r : Found) → Seeks s w i r → r ≡ found.Nothing → Does s c w w (refusedWith s NotActive)
+  asked-nothing c n r q e = inactive c n (λ h first y t.
       let k = own-of c s w z o t in
       let p : s .present .0 ≡ length (h .values) = ap (λ (x : Session). x .present .0) (t .session) in
       refuted _ (λ a.
@@ -78,34 +76,34 @@ module _ (s : Session) (w : List ℕ) (i : Position) (z : s .words ≡ 0 → ⊥
     live = q .sound g e
 
     -- of a history, the position is active
-    is-active : (h : History) (lent : List ℕ) → Keeps h lent w → among i (h .active) ≡ true
-    is-active h lent k = ap (among i) (sym (k .holds .marks)) ∙ live-among w i g live
+    is-active : (h : History) (first : List ℕ) → Keeps h first w → among i (h .active) ≡ true
+    is-active h first k = ap (among i) (sym (k .holds .marks)) ∙ live-among w i g live
 
-    due-none : (c : Command) → Names i c → ForEach s w (λ h lent. refusal s (length w) (isActive h c) c ≡ 0)
-    due-none c n h lent _ t = due-to c n (isActive h c) ∙ ap (λ (b : Bool). cond b 0 11) (active-of c n h ∙ is-active h lent (own-of c s w z o t))
+    due-none : (c : Command) → Names i c → ForEach s w (λ h first. refusal s (length w) (isActive h c) c ≡ 0)
+    due-none c n h first _ t = due-to c n (isActive h c) ∙ ap (λ (b : Bool). cond b 0 11) (active-of c n h ∙ is-active h first (own-of c s w z o t))
 
     -- the stack had no minimum: no history's words
-    pub query-lost : (b : Low) → Looked w g b → b ≡ low.Nothing → Does (Query i) s w w (refusedWith s NotActive)
-    query-lost b l f = inactive (Query i) a-query (λ h lent _ t.
+    pub query-lost : (b : Low) → Looked w g b → b ≡ low.Nothing → Does s (Query i) w w (refusedWith s NotActive)
+    query-lost b l f = inactive (Query i) a-query (λ h first _ t.
         let k = own-of (Query i) s w z o t in
         let x : low.Nothing ≡ low.At (minimum (h .values) i) = sym f ∙ looked-minimum w (h .values) (h .active) i g b l (k .holds) live in
         absurd (let y : _≡_ {A = ℕ} 0 1 = cc in omega arith))
 
     -- it had
-    pub query-done : (b : Low) (m : Minimum) → Looked w g b → b ≡ low.At m → Does (Query i) s w w (record { reply = Lowest m; session = s })
+    pub query-done : (b : Low) (m : Minimum) → Looked w g b → b ≡ low.At m → Does s (Query i) w w (record { reply = Lowest m; session = s })
     query-done b m l f =
         does-accepted (Query i) s w true (λ _. q .possible g e) refl (due-to (Query i) a-query true)
         (record { counted = s .active; found = m; tells = refl; session = refl; unaltered = (refl, refl) })
-        (λ h lent y t.
+        (λ h first y t.
         let k = own-of (Query i) s w z o t in
         let x : low.At m ≡ low.At (minimum (h .values) i) = sym f ∙ looked-minimum w (h .values) (h .active) i g b l (k .holds) live in
         let d : m ≡ minimum (h .values) i = cc in
-        (due-none (Query i) a-query h lent y t, ap showing d, ap (λ (x : Session). x .active) (t .session), k))
+        (due-none (Query i) a-query h first y t, ap showing d, ap (λ (x : Session). x .active) (t .session), k))
 
     -- a count of no active marks: no history's session
-    pub close-lost : s .active ≡ 0 → Does (Close i) s w w (refusedWith s NotActive)
-    close-lost f = inactive (Close i) a-close (λ h lent _ t.
-        absurd (none (h .active) (sym (ap (λ (x : Session). x .active) (t .session)) ∙ f) (is-active h lent (own-of (Close i) s w z o t))))
+    pub close-lost : s .active ≡ 0 → Does s (Close i) w w (refusedWith s NotActive)
+    close-lost f = inactive (Close i) a-close (λ h first _ t.
+        absurd (none (h .active) (sym (ap (λ (x : Session). x .active) (t .session)) ∙ f) (is-active h first (own-of (Close i) s w z o t))))
       where
         none : (ps : List Position) → length ps ≡ 0 → among i ps ≡ true → ⊥
         none [] l a = let y : _≡_ {A = ℕ} 0 1 = cc in omega arith
@@ -116,8 +114,8 @@ module _ (s : Session) (w : List ℕ) (i : Position) (z : s .words ≡ 0 → ⊥
       same-position : (j : Held) → position after j ≡ position w j
       same-position j = c .kept (16 + 8 * j .0) (λ x. omega arith)
 
-      keeps : (h : History) (lent : List ℕ) → Keeps h lent w → Keeps (closed h i) lent after
-      keeps h lent k =
+      keeps : (h : History) (first : List ℕ) → Keeps h first w → Keeps (accept h (Close i) .history) first after
+      keeps h first k =
           let here : positionOf w g ≡ i = λ x. record { 0 = live .here x } in
           record {
             holds = rw here at (released-holds w after (h .values) (h .active) g c (k .holds) (live .row));
@@ -127,16 +125,16 @@ module _ (s : Session) (w : List ℕ) (i : Position) (z : s .words ≡ 0 → ⊥
                 (k .fresh (was-unmarked (h .standing) (eqb (i .0) (presentOf h .0)) x) j (rw (c .kept 0 (λ y. omega arith)) at l));
           }
 
-      pub close-done : Does (Close i) s w after (acceptedWith s (s .present) (s .last) (s .active - 1) (nextStanding (s .standing) (eventOf (s .present) (Close i)) .after))
+      pub close-done : Does s (Close i) w after (acceptedWith s (s .present) (s .last) (s .active - 1) (transitionOf (eventOf (s .present) (Close i)) (s .standing) .after))
       close-done =
           does-accepted (Close i) s w true (λ _. q .possible g e) (c .long) (due-to (Close i) a-close true)
           (record { counted = s .active - 1; found = standsAt (s .last) (s .present); tells = refl; session = refl; unaltered = tt })
-          (λ h lent y t.
+          (λ h first y t.
           let k = own-of (Close i) s w z o t in (
-            due-none (Close i) a-close h lent y t,
+            due-none (Close i) a-close h first y t,
             refl,
-            omega (arith, struck-one i (y .rising) (is-active h lent k), ap (λ (x : Session). x .active) (t .session)),
-            keeps h lent k,
+            omega (arith, struck-one i (y .rising) (is-active h first k), ap (λ (x : Session). x .active) (t .session)),
+            keeps h first k,
           ))
 
 -- the ways out of a search: a position that no mark can have, and what the table finds

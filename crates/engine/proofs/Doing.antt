@@ -16,12 +16,11 @@ use Rattle.history.specs.declared.Command.the-variants.{Mark}
 use Rattle.history.specs.declared.Refusal.{Refusal}
 use Rattle.history.specs.declared.Refusal.the-variants.{Unopened, OtherLength, Full}
 use Rattle.history.specs.declared.Answer.{Answer}
-use Rattle.history.specs.Replies.{numbered, numberOf, told}
-use Rattle.history.specs.Refusals.{refusal}
-use Rattle.history.specs.Histories.{History, sessionOf, isActive, accept, refuse, due, step}
+use Rattle.history.specs.Replies.{numbered, numberOf, told, refusal}
+use Rattle.history.specs.Histories.{History, sessionOf, isActive, accept, refusalOf, step}
 use Rattle.history.specs.Sessions.{sessionAfter}
 use Rattle.history.specs.Sound.{Sound}
-use Rattle.history.proofs.Steps.{some-number, refusal-unopened, refusal-other, step-refused, step-accepted}
+use Rattle.history.proofs.Steps.{some-number, refusal-unopened, refusal-other, refused, step-refused, step-accepted}
 use Rattle.history.proofs.Following.{session-follows}
 use Rattle.engine.specs.Promises.{AfterAcceptance, Possible}
 use Rattle.engine.specs.Keeping.{Keeps, Represents}
@@ -30,17 +29,17 @@ use Rattle.engine.specs.Private.{refusedWith, acceptedWith}
 
 -- what is to be shown of every history that the session and the words represent
 abbrev pub ForEach : Session → List ℕ → (History → List ℕ → Type 0) → Type 0
-ForEach s w P = (h : History) (lent : List ℕ) → Sound h → Represents h lent s w → P h lent
+ForEach s w P = (h : History) (first : List ℕ) → Sound h → Represents h first s w → P h first
 
 module _ (c : Command) (s : Session) (w : List ℕ) where
   -- what the bookkeeper finds due is the refusal of the session
-  due-of : {h : History} {lent : List ℕ} → Represents h lent s w → due h (length w) c ≡ refusal s (length w) (isActive h c) c
+  due-of : {h : History} {first : List ℕ} → Represents h first s w → refusalOf h (length w) c ≡ refusal s (length w) (isActive h c) c
   due-of {h} r = ap (λ (x : Session). refusal x (length w) (isActive h c) c) (sym (r .session))
 
   -- REFUSED, where the program takes the position for active or not, as b says, and a history says the same
   module _ (k : Refusal) (b : Bool) (y : b ≡ true → Possible s c) (e : refusal s (length w) b c ≡ numberOf k)
-      (f : ForEach s w (λ h lent. refusal s (length w) (isActive h c) c ≡ numberOf k)) where
-    pub does-refused : Does c s w w (refusedWith s k)
+      (f : ForEach s w (λ h first. refusal s (length w) (isActive h c) c ≡ numberOf k)) where
+    pub does-refused : Does s c w w (refusedWith s k)
     does-refused = record {
       long = refl;
       settled = record {
@@ -49,25 +48,25 @@ module _ (c : Command) (s : Session) (w : List ℕ) where
         refuses = λ z. record { tells = ap numbered (sym e); session = refl; words = refl };
         accepts = λ z. absurd (some-number k (sym e ∙ z));
       };
-      tells = λ h lent q r. rw (there h lent q r);
-      represents = λ h lent q r. rw (there h lent q r) r;
+      tells = λ h first q r. rw (there h first q r);
+      represents = λ h first q r. rw (there h first q r) r;
     }
       where
-        there : ForEach s w (λ h lent. step h (length w) c ≡ refuse h (numberOf k))
-        there h lent q r = step-refused h (length w) c (numberOf k) (due-of r ∙ f h lent q r) (some-number k)
+        there : ForEach s w (λ h first. step h (length w) c ≡ refused h (numberOf k))
+        there h first q r = step-refused h (length w) c (numberOf k) (due-of r ∙ f h first q r) (some-number k)
 
   -- refused by what the session and the lengths say alone
-  pub does-due : (k : Refusal) → ((b : Bool) → refusal s (length w) b c ≡ numberOf k) → Does c s w w (refusedWith s k)
-  does-due k e = does-refused k false (λ x. absurd (false≢true x)) (e false) (λ h lent q r. e (isActive h c))
+  pub does-due : (k : Refusal) → ((b : Bool) → refusal s (length w) b c ≡ numberOf k) → Does s c w w (refusedWith s k)
+  does-due k e = does-refused k false (λ x. absurd (false≢true x)) (e false) (λ h first q r. e (isActive h c))
 
-  pub does-unopened : s .words ≡ 0 → Does c s w w (refusedWith s Unopened)
+  pub does-unopened : s .words ≡ 0 → Does s c w w (refusedWith s Unopened)
   does-unopened z = does-due Unopened (λ b. refusal-unopened s (length w) b c z)
 
-  pub does-other : (s .words ≡ 0 → ⊥) → (length w ≡ s .words → ⊥) → Does c s w w (refusedWith s OtherLength)
+  pub does-other : (s .words ≡ 0 → ⊥) → (length w ≡ s .words → ⊥) → Does s c w w (refusedWith s OtherLength)
   does-other z o = does-due OtherLength (λ b. refusal-other s (length w) b c z o)
 
   -- words of the opened length are the history's
-  pub own-of : (s .words ≡ 0 → ⊥) → length w ≡ s .words → {h : History} {lent : List ℕ} → Represents h lent s w → Keeps h lent w
+  pub own-of : (s .words ≡ 0 → ⊥) → length w ≡ s .words → {h : History} {first : List ℕ} → Represents h first s w → Keeps h first w
   own-of z o r =
       let e = ap (λ (x : Session). x .words) (r .session) in
       r .own (λ q. z (e ∙ q)) (o ∙ e)
@@ -76,9 +75,9 @@ module _ (c : Command) (s : Session) (w : List ℕ) where
   -- and the words keep that history
   module _ (b : Bool) (y : b ≡ true → Possible s c) {after : List ℕ} {r : Answer} (l : length after ≡ length w) (e : refusal s (length w) b c ≡ 0)
       (a : AfterAcceptance c s w after (r .session) (told (r .reply)))
-      (f : ForEach s w (λ h lent. (refusal s (length w) (isActive h c) c ≡ 0) × (told (r .reply) ≡ accept h c .tells)
-      × (a .counted ≡ length (accept h c .history .active)) × Keeps (accept h c .history) lent after)) where
-    pub does-accepted : Does c s w after r
+      (f : ForEach s w (λ h first. (refusal s (length w) (isActive h c) c ≡ 0) × (told (r .reply) ≡ accept h c .tells)
+      × (a .counted ≡ length (accept h c .history .active)) × Keeps (accept h c .history) first after)) where
+    pub does-accepted : Does s c w after r
     does-accepted = record {
       long = l;
       settled = record {
@@ -87,22 +86,22 @@ module _ (c : Command) (s : Session) (w : List ℕ) where
         refuses = λ z. absurd (z e);
         accepts = λ z. inl a;
       };
-      tells = λ h lent q t. rw (there h lent q t) (f h lent q t .1);
-      represents = λ h lent q t. rw (there h lent q t) (record { session = session h lent q t; own = λ _ _. f h lent q t .3 });
+      tells = λ h first q t. rw (there h first q t) (f h first q t .1);
+      represents = λ h first q t. rw (there h first q t) (record { session = session h first q t; own = λ _ _. f h first q t .3 });
     }
       where
-        there : ForEach s w (λ h lent. step h (length w) c ≡ accept h c)
-        there h lent q t = step-accepted h (length w) c (due-of t ∙ f h lent q t .0)
+        there : ForEach s w (λ h first. step h (length w) c ≡ accept h c)
+        there h first q t = step-accepted h (length w) c (due-of t ∙ f h first q t .0)
 
-        session : ForEach s w (λ h lent. r .session ≡ sessionOf (accept h c .history))
-        session h lent q t =
+        session : ForEach s w (λ h first. r .session ≡ sessionOf (accept h c .history))
+        session h first q t =
             a .session
             ∙ ap (λ (x : Session). sessionAfter x c (a .counted)) (t .session)
-            ∙ ap (λ (n : ℕ). sessionAfter (sessionOf h) c n) (f h lent q t .2)
+            ∙ ap (λ (n : ℕ). sessionAfter (sessionOf h) c n) (f h first q t .2)
             ∙ session-follows h c
 
 -- a Mark on words that are no history's, refused as full
-pub does-full : (s : Session) (w : List ℕ) → refusal s (length w) false Mark ≡ 0 → ForEach s w (λ h lent. ⊥) → Does Mark s w w (refusedWith s Full)
+pub does-full : (s : Session) (w : List ℕ) → refusal s (length w) false Mark ≡ 0 → ForEach s w (λ h first. ⊥) → Does s Mark w w (refusedWith s Full)
 does-full s w e n = record {
   long = refl;
   settled = record {
@@ -111,11 +110,11 @@ does-full s w e n = record {
     refuses = λ z. absurd (z e);
     accepts = λ z. inr (refl, record { tells = refl; session = refl; words = refl });
   };
-  tells = λ h lent q r. absurd (n h lent q r);
-  represents = λ h lent q r. absurd (n h lent q r);
+  tells = λ h first q r. absurd (n h first q r);
+  represents = λ h first q r. absurd (n h first q r);
 }
 
 -- an answer that `accept` makes, of parts that are those it should have
 pub does-with : {c : Command} {s : Session} {w after : List ℕ} {r : Answer} {p : Position} {l m : ℤ} {a b : ℕ} {j k : Standing}
-    → r ≡ acceptedWith s p l a j → l ≡ m → a ≡ b → j ≡ k → Does c s w after (acceptedWith s p m b k) → Does c s w after r
+    → r ≡ acceptedWith s p l a j → l ≡ m → a ≡ b → j ≡ k → Does s c w after (acceptedWith s p m b k) → Does s c w after r
 does-with e l a j d = rw (e, l, a, j) d

@@ -8,31 +8,31 @@ use Rattle.history.specs.Histories.{opening, bookkeeper}
 use Rattle.history.specs.Examples.{Example, worked, AllWorked, examples}
 use Rattle.history.proofs.Worked.{examples-worked}
 use Rattle.runs.specs.Lists.{repliesOf, commandsOf}
-use Rattle.runs.proofs.Lists.{told-all}
+use Rattle.runs.proofs.Lists.{each-call, told-all}
 use Rattle.engine.specs.Demand.{Meets}
-use Rattle.engine.specs.Consequences.{Shows, ShowsAll}
+use Rattle.engine.specs.Consequences.{AlwaysGives, AllGiven}
 use Rattle.engine.proofs.Tied.{Opened, Called, demand-3}
 
--- an example that the bookkeeper works out is shown
-shows : (e : Example) → worked e ≡ e → Shows Opened Called e
-shows e w first left o calls n q m cs l =
+-- an example that the bookkeeper works out is given by every run
+gives : (e : Example) → worked e ≡ e → AlwaysGives Opened Called e
+gives e w first left o calls n q m cs l =
     let d = demand-3 first left o calls q m in
     record {
       opens = d .0 .tells ∙ ap (λ (k : ℕ). opening k .tells) n ∙ ap (λ (x : Example). x .opens) w;
       limit = ap (λ (s : Session). s .limit) (d .0 .session) ∙ ap (λ (k : ℕ). opening k .history .limit) n ∙ ap (λ (x : Example). x .limit) w;
-      tells = told-all bookkeeper (Meets _ first) _ first (λ now h later c x. x .agrees) (e .words) left _ calls (d .1) l
+      tells = told-all bookkeeper _ (e .words) first left _ calls (each-call bookkeeper (Meets _ first) _ (λ now h later c x. x .agrees) _ left _ calls (d .1)) l
           ∙ ap (λ (k : ℕ). repliesOf bookkeeper (opening k .history) (e .words) (commandsOf bookkeeper calls)) n
           ∙ ap (λ (x : List Command). repliesOf bookkeeper (opening (e .words) .history) (e .words) x) cs
           ∙ ap (λ (x : Example). x .tells) w;
     }
 
-shows-all : (es : List Example) → AllWorked es → ShowsAll Opened Called es
-shows-all [] w = tt
-shows-all (e ∷ es) w =
+gives-all : (es : List Example) → AllWorked es → AllGiven Opened Called es
+gives-all [] w = tt
+gives-all (e ∷ es) w =
     let here : worked e ≡ e = cc in
     let rest : map worked es ≡ es = cc in
-    (shows e here, shows-all es rest)
+    (gives e here, gives-all es rest)
 
 -- THE STARRED EXAMPLES, by every run of the engine
-pub examples-shown : ShowsAll Opened Called examples
-examples-shown = shows-all examples examples-worked
+pub examples-given : AllGiven Opened Called examples
+examples-given = gives-all examples examples-worked

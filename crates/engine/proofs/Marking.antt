@@ -10,7 +10,7 @@ use native.Mathlib.Omega.{arith}
 use lib.ListN.{length, length-append}
 use borrow.Author.Tests.{eq-eqb, ne-eqb}
 use Rattle.history.specs.declared.Standing.{Standing}
-use Rattle.history.specs.declared.Standing.the-variants.{Unmarked, Marked}
+use Rattle.history.specs.declared.Standing.the-variants.{Unmarked}
 use Rattle.history.specs.declared.Session.{Session}
 use Rattle.history.specs.declared.Command.the-variants.{Mark}
 use Rattle.history.specs.declared.Event.{Event}
@@ -20,9 +20,9 @@ use Rattle.history.specs.declared.Transition.{Transition}
 use Rattle.history.specs.declared.Refusal.{Refusal}
 use Rattle.history.specs.declared.Refusal.the-variants.{Full}
 use Rattle.history.specs.Minima.{standsAt}
-use Rattle.history.specs.Standings.{allowing, nextStanding}
-use Rattle.history.specs.Refusals.{markRefusal, refusal}
-use Rattle.history.specs.Histories.{History, presentOf, sessionOf, isActive, marked, bookkeeper}
+use Rattle.history.specs.Standings.{allowing, transitionOf}
+use Rattle.history.specs.Replies.{markRefusal, refusal}
+use Rattle.history.specs.Histories.{History, presentOf, sessionOf, isActive, accept, bookkeeper}
 use Rattle.history.specs.Sound.{Sound}
 use Rattle.history.proofs.Lowest.{minimum-new}
 use Rattle.history.proofs.Steps.{refusal-own, unmarked-only, marked-after}
@@ -42,41 +42,41 @@ allowed {t} e d = sym e ∙ (λ i. record { due = d i; after = t .after })
 
 module _ (s : Session) (w : List ℕ) (z : s .words ≡ 0 → ⊥) (o : length w ≡ s .words) where
   -- what is due to a Mark goes by what the standing has against it
-  due-by : (d : Due) → nextStanding (s .standing) Event.Mark .due ≡ d → (b : Bool) → refusal s (length w) b Mark ≡ markRefusal s d
+  due-by : (d : Due) → transitionOf Event.Mark (s .standing) .due ≡ d → (b : Bool) → refusal s (length w) b Mark ≡ markRefusal s d
   due-by d e b = refusal-own s (length w) b Mark z o ∙ ap (markRefusal s) e
 
   -- 7, 8 and 9
-  pub mark-refused : (why : Refusal) → nextStanding (s .standing) Event.Mark .due ≡ Refused why → Does Mark s w w (refusedWith s why)
+  pub mark-refused : (why : Refusal) → transitionOf Event.Mark (s .standing) .due ≡ Refused why → Does s Mark w w (refusedWith s why)
   mark-refused why e = does-due Mark s w why (due-by (Refused why) e)
 
-  module _ (after-standing : Standing) (u : nextStanding (s .standing) Event.Mark ≡ allowing after-standing) where
-    free : nextStanding (s .standing) Event.Mark .due ≡ Nothing
+  module _ (after-standing : Standing) (u : transitionOf Event.Mark (s .standing) ≡ allowing after-standing) where
+    free : transitionOf Event.Mark (s .standing) .due ≡ Nothing
     free = ap (λ (x : Transition). x .due) u
 
     -- 10
-    pub mark-full : s .active ≡ s .limit → Does Mark s w w (refusedWith s Full)
+    pub mark-full : s .active ≡ s .limit → Does s Mark w w (refusedWith s Full)
     mark-full e = does-due Mark s w Full (λ b. due-by Nothing free b ∙ rw (eq-eqb (s .active) (s .limit) e))
 
     none-due : (s .active ≡ s .limit → ⊥) → (b : Bool) → refusal s (length w) b Mark ≡ 0
     none-due n b = due-by Nothing free b ∙ ap (λ (t : Bool). cond t 10 0) (ne-eqb (s .active) (s .limit) n)
 
     -- more marks than any opening allows: no history's session
-    pub mark-foreign : (s .active ≡ s .limit → ⊥) → 4096 ≤ s .active → Does Mark s w w (refusedWith s Full)
-    mark-foreign n f = does-full s w (none-due n false) (λ h lent q r.
+    pub mark-foreign : (s .active ≡ s .limit → ⊥) → 4096 ≤ s .active → Does s Mark w w (refusedWith s Full)
+    mark-foreign n f = does-full s w (none-due n false) (λ h first q r.
         omega (arith, n, q .peaked, q .limited, q .few, ap (λ (x : Session). x .active) (r .session), ap (λ (x : Session). x .limit) (r .session)))
 
     -- a row is spared, and the present position is appended
     module _ (v after : List ℕ) (n : s .active ≡ s .limit → ⊥) (f : s .active < 4096) (q : Spared w v (s .active))
         (a : Appended v after (s .present) (standsAt (s .last) (s .present))) where
-      module _ (h : History) (lent : List ℕ) (y : Sound h) (e : s ≡ sessionOf h) (k : Keeps h lent w) where
+      module _ (h : History) (first : List ℕ) (y : Sound h) (e : s ≡ sessionOf h) (k : Keeps h first w) where
         active-is : s .active ≡ length (h .active)
         active-is = ap (λ (x : Session). x .active) e
 
         below-limit : length (h .active) < h .limit
         below-limit = omega (arith, n, active-is, ap (λ (x : Session). x .limit) e, y .peaked, y .limited)
 
-        free-of : nextStanding (h .standing) Event.Mark .due ≡ Nothing
-        free-of = ap (λ (x : Session). nextStanding (x .standing) Event.Mark .due) (sym e) ∙ free
+        free-of : transitionOf Event.Mark (h .standing) .due ≡ Nothing
+        free-of = ap (λ (x : Session). transitionOf Event.Mark (x .standing) .due) (sym e) ∙ free
 
         unmarked : h .standing ≡ Unmarked
         unmarked = unmarked-only (h .standing) free-of
@@ -95,8 +95,8 @@ module _ (s : Session) (w : List ℕ) (z : s .words ≡ 0 → ⊥) (o : length w
         record Ready : Type 0 where
           holds : Holds v (h .values) (h .active)
           fresh : Above v (presentOf h)
-          below : 16 + 8 * capacity v ≤ bookkeeper .bound (marked h)
-          rest : AsLent (bookkeeper .bound (marked h)) lent v
+          below : 16 + 8 * capacity v ≤ bookkeeper .bound (accept h Mark .history)
+          rest : AsLent (bookkeeper .bound (accept h Mark .history)) first v
 
         ready : Ready
         ready = ⊎-elim
@@ -125,7 +125,7 @@ module _ (s : Session) (w : List ℕ) (z : s .words ≡ 0 → ⊥) (o : length w
             (a .holds (h .values) (h .active) (ready .holds) (spared .0) (rw p (ready .fresh)) (rw p (y .some unmarked)) (rw p (omega arith))
             (rw (p, ap (λ (x : Session). x .last) e) (minimum-new (h .values))))
 
-        keeps : Keeps (marked h) lent after
+        keeps : Keeps (accept h Mark .history) first after
         keeps = record {
           holds = held;
           rest = λ i m.
@@ -141,7 +141,7 @@ module _ (s : Session) (w : List ℕ) (z : s .words ≡ 0 → ⊥) (o : length w
           fresh = λ x. absurd (let m = marked-after (h .standing) free-of in let y : _≡_ {A = ℕ} 0 1 = cc in omega arith);
         }
 
-      pub mark-done : Does Mark s w after (acceptedWith s (s .present) (s .last) (s .active + 1) after-standing)
+      pub mark-done : Does s Mark w after (acceptedWith s (s .present) (s .last) (s .active + 1) after-standing)
       mark-done =
           does-accepted Mark s w false (λ _. tt) (a .long ∙ q .long) (none-due n false)
           (record {
@@ -151,9 +151,9 @@ module _ (s : Session) (w : List ℕ) (z : s .words ≡ 0 → ⊥) (o : length w
             session = rw u;
             unaltered = tt;
           })
-          (λ h lent y r. (
+          (λ h first y r. (
             none-due n (isActive h Mark),
             refl,
-            omega (arith, one-more h lent y (r .session) (own-of Mark s w z o r), ap (λ (x : Session). x .active) (r .session)),
-            keeps h lent y (r .session) (own-of Mark s w z o r),
+            omega (arith, one-more h first y (r .session) (own-of Mark s w z o r), ap (λ (x : Session). x .active) (r .session)),
+            keeps h first y (r .session) (own-of Mark s w z o r),
           ))

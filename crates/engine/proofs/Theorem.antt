@@ -1,23 +1,19 @@
 -- The demands, from what the contracts say of an opening and of a command. Demand 3 is the induction over a run, of the engine's instance, from the opening; what it says of a Mark
 -- and a Query besides follows from the paper alone. Demand 1 is read off the contracts.
 use mathlib.Core.Path.{_≡_, refl, sym, ap, _∙_}
-use mathlib.Core.Bool.{true}
 use mathlib.Core.List.{List, [], _∷_}
 use mathlib.Core.Logic.{⊎-elim}
-use mathlib.Core.Option.{some}
-use Prim.Native.Nat.{ℕ, _<_}
+use Prim.Native.Nat.{ℕ}
 use native.Mathlib.Omega.{arith}
 use native.Mathlib.Decide.{ℕ-discrete}
 use lib.ListN.{length}
-use Rattle.history.specs.declared.Position.{Position}
 use Rattle.history.specs.declared.Minimum.{Minimum}
 use Rattle.history.specs.declared.Session.{Session}
 use Rattle.history.specs.declared.Command.{Command}
 use Rattle.history.specs.declared.Command.the-variants.{Value, Mark, Query, Close}
 use Rattle.history.specs.declared.Answer.{Answer}
 use Rattle.history.specs.Minima.{minimum}
-use Rattle.history.specs.Replies.{Told, numbered, told}
-use Rattle.history.specs.Refusals.{refusal}
+use Rattle.history.specs.Replies.{Told, numbered, told, refusal}
 use Rattle.history.specs.Histories.{History, Stepped, sessionOf, blank, opening, step, bookkeeper}
 use Rattle.history.specs.Sound.{Sound}
 use Rattle.history.proofs.Steps.{opening-refused, opening-short, opening-words}
@@ -25,11 +21,11 @@ use Rattle.history.proofs.Soundness.{opening-sound}
 use Rattle.history.proofs.Following.{full-when, told-minimum, active-least, shown-minimum}
 use Rattle.runs.specs.Runs.{Call, paperAfter, Agrees, EachCall}
 use Rattle.runs.proofs.Induction.{own-length, run}
-use Rattle.engine.specs.Demand.{OpeningSays, CallSays, Meets, Demand3}
+use Rattle.engine.specs.Demand.{OpeningSays, CommandSays, Answered, Meets, Demand3}
 use Rattle.engine.specs.Promises.{AfterRefusal, AfterAcceptance, shows, Settled, Demand1}
 use Rattle.engine.specs.Consequences.{AllTold, OnlyFours}
 use Rattle.engine.specs.Keeping.{Keeps}
-use Rattle.engine.specs.Contracts.{Opens, Done}
+use Rattle.engine.specs.Contracts.{Opens, Does}
 use Rattle.engine.proofs.Instance.{one-call}
 
 -- a call that agrees with the bookkeeper meets demands 2 and 3
@@ -63,48 +59,41 @@ settled-refused c s before after t a q z = elim (ℕ-discrete (refusal s (length
     shows-none (Query i) m = refl
     shows-none (Close i) m = refl
 
--- what the contract settles of an answer it settles of a call that says the same
-settled-call : (s : Session) (c : Call bookkeeper) → Done s c → Settled (c .command) s (c .lent) (c .left) (c .session) (c .told)
-settled-call s c (r, d, t, e) = go (c .told) (c .session) t e
-  where
-    go : (a : Told) (u : Session) → a ≡ told (r .reply) → u ≡ r .session → Settled (c .command) s (c .lent) (c .left) u a
-    go a u t e = rw (t, e) (d .settled)
-
 -- on the history of a refused opening every command is told 4
 fours : (first words : List ℕ) (cs : List (Call bookkeeper)) → EachCall bookkeeper (Meets 0 first) 0 words (blank 0 0) cs → AllTold (numbered 4) cs
 fours first words [] a = tt
 fours first words (c ∷ cs) a = (a .0 .agrees .tells, a .0 .agrees .elsewhere refl, fours first words cs (a .1))
 
--- what is known of the calls gives what the contracts say
-module _ (opened : OpeningSays) (did : CallSays) (opens : (first left : List ℕ) (o : Answer) → opened first left o → Opens first left o)
-    (does : (s : Session) (c : Call bookkeeper) → did s c → Done s c) where
-  pub demand-3 : Demand3 opened did
+-- what is known of the functions gives what the contracts say
+module _ (opened : OpeningSays) (says : CommandSays) (opens : (first left : List ℕ) (o : Answer) → opened first left o → Opens first left o)
+    (does : (s : Session) (c : Command) (lent left : List ℕ) (r : Answer) → says s c lent left r → Does s c lent left r) where
+  pub demand-3 : Demand3 opened says
   demand-3 first left o cs q m =
       let p = opens first left o q in
       let h = opening (length first) .history in
       let n = h .words in (
         record { tells = p .tells; session = p .represents .session; rest = p .rest; long = p .long },
-        run bookkeeper Sound Keeps did (one-call did does) (Meets n first) n first (meets n first) left h (o .session) cs
+        run bookkeeper Sound Keeps (Answered says) (one-call says does) (Meets n first) n first (meets n first) left h (o .session) cs
             (p .represents .session) (opening-sound (length first)) refl (λ i l. p .rest i (omega arith))
             (λ z. p .represents .own z (p .long ∙ sym (opening-words (length first) z))) m,
       )
 
-  pub demand-1 : Demand1 opened did
+  pub demand-1 : Demand1 opened says
   demand-1 = record {
     refusedOpening = λ first left o q z.
         let p = opens first left o q in
         let l = opening-short (length first) (λ e. z (ap (λ (x : Told). x .number) (p .tells) ∙ e)) in
         (p .refused l, p .represents .session ∙ ap (λ (x : Stepped). sessionOf (x .history)) (opening-refused (length first) l));
-    refusedCommand = λ s c q z. settled-refused (c .command) s (c .lent) (c .left) (c .session) (c .told) (settled-call s c (does s c q)) z;
-    settled = λ s c q. (does s c q .1 .long, settled-call s c (does s c q));
+    refusedCommand = λ s c lent left r q z. settled-refused c s lent left (r .session) (told (r .reply)) (does s c lent left r q .settled) z;
+    settled = λ s c lent left r q. let d = does s c lent left r q in (d .long, d .settled);
   }
 
-  pub only-fours : OnlyFours opened did
+  pub only-fours : OnlyFours opened says
   only-fours first left o cs l q m =
       let e = ap (λ (x : Stepped). x .history) (opening-refused (length first) l) in
       let n : opening (length first) .history .words ≡ 0 = ap (λ (h : History). h .words) e in
       fours first left cs (rw (n, e) at (demand-3 first left o cs q (rw n m) .1))
 
--- DEMAND 3, of calls of which the contracts are known: for a caller of the engine, who knows no more of its calls than what the contracts say
-pub by-contract : Demand3 Opens Done
-by-contract = demand-3 Opens Done (λ first left o d. d) (λ s c d. d)
+-- DEMAND 3, where no more is known of the functions than their contracts: for a caller of the engine
+pub by-contract : Demand3 Opens Does
+by-contract = demand-3 Opens Does (λ first left o d. d) (λ s c lent left r d. d)

@@ -13,9 +13,9 @@ use Rattle.history.specs.declared.Command.the-variants.{Value}
 use Rattle.history.specs.declared.Event.{Event}
 use Rattle.history.specs.declared.Refusal.the-variants.{LastPosition}
 use Rattle.history.specs.Minima.{standsAt, next}
-use Rattle.history.specs.Standings.{nextStanding}
-use Rattle.history.specs.Refusals.{refusal}
-use Rattle.history.specs.Histories.{History, sessionOf, isActive, valued}
+use Rattle.history.specs.Standings.{transitionOf}
+use Rattle.history.specs.Replies.{refusal}
+use Rattle.history.specs.Histories.{History, sessionOf, isActive, accept}
 use Rattle.history.proofs.Steps.{refusal-own}
 use Rattle.layout.specs.Layout.{capacity}
 use Rattle.stack.specs.Calls.{Lowered}
@@ -27,7 +27,7 @@ use Rattle.engine.proofs.Doing.{does-due, does-accepted, own-of}
 
 module _ (s : Session) (w : List ℕ) (v : ℤ) (z : s .words ≡ 0 → ⊥) (o : length w ≡ s .words) where
   -- no position is left
-  pub value-last : s .present .0 ≡ 4294967295 → Does (Value v) s w w (refusedWith s LastPosition)
+  pub value-last : s .present .0 ≡ 4294967295 → Does s (Value v) w w (refusedWith s LastPosition)
   value-last e = does-due (Value v) s w LastPosition (λ b. rw (refusal-own s (length w) b (Value v) z o, eq-eqb (s .present .0) 4294967295 e))
 
   -- the value is the next position's, and each mark's minimum is lowered by it
@@ -39,8 +39,8 @@ module _ (s : Session) (w : List ℕ) (v : ℤ) (z : s .words ≡ 0 → ⊥) (o 
         → getD after i 0 ≡ getD w i 0
     beside i m e = q .kept i (record { height = m; entries = λ t a b. e t b })
 
-    keeps : (h : History) (lent : List ℕ) → s ≡ sessionOf h → Keeps h lent w → Keeps (valued h v) lent after
-    keeps h lent e k =
+    keeps : (h : History) (first : List ℕ) → s ≡ sessionOf h → Keeps h first w → Keeps (accept h (Value v) .history) first after
+    keeps h first e k =
         let p : s .present .0 ≡ length (h .values) = ap (λ (x : Session). x .present .0) e in
         record {
           holds = lowered-holds w after (h .values) (h .active) v
@@ -50,13 +50,13 @@ module _ (s : Session) (w : List ℕ) (v : ℤ) (z : s .words ≡ 0 → ⊥) (o 
           fresh = λ x g l. rw (lowered-position q g) (omega (arith, length-append (h .values) (v ∷ []), k .holds .before g (rw (lowered-rows q) at l)));
         }
 
-    pub value-done : Does (Value v) s w after (acceptedWith s (next (s .present)) v (s .active) (nextStanding (s .standing) Event.Value .after))
+    pub value-done : Does s (Value v) w after (acceptedWith s (next (s .present)) v (s .active) (transitionOf Event.Value (s .standing) .after))
     value-done =
         does-accepted (Value v) s w false (λ _. tt) (q .long) (none-due false)
         (record { counted = s .active; found = standsAt v (s .present); tells = refl; session = refl; unaltered = tt })
-        (λ h lent _ r. (
+        (λ h first _ r. (
           none-due (isActive h (Value v)),
           refl,
           ap (λ (x : Session). x .active) (r .session),
-          keeps h lent (r .session) (own-of (Value v) s w z o r),
+          keeps h first (r .session) (own-of (Value v) s w z o r),
         ))

@@ -10,7 +10,7 @@ use Rattle.history.specs.Histories.{opening, bookkeeper}
 use Rattle.history.specs.Examples.{Example}
 use Rattle.runs.specs.Runs.{Call, Made}
 use Rattle.runs.specs.Lists.{commandsOf, toldTo, AllLent}
-use Rattle.engine.specs.Demand.{OpeningSays, CallSays}
+use Rattle.engine.specs.Demand.{OpeningSays, CommandSays, Answered}
 
 -- an opening and calls give what an example says
 pub record Gives (e : Example) (o : Answer) (calls : List (Call bookkeeper)) : Type 0 where
@@ -18,21 +18,21 @@ pub record Gives (e : Example) (o : Answer) (calls : List (Call bookkeeper)) : T
   pub limit : o .session .limit ≡ e .limit
   pub tells : toldTo bookkeeper calls ≡ e .tells
 
--- every run of an example's commands does
-abbrev pub Shows : OpeningSays → CallSays → Example → Type 0
-Shows opened did e =
+-- every run of an example's commands gives it
+abbrev pub AlwaysGives : OpeningSays → CommandSays → Example → Type 0
+AlwaysGives opens says e =
     (first left : List ℕ) (o : Answer) (calls : List (Call bookkeeper))
     → length first ≡ e .words
-    → opened first left o
-    → Made bookkeeper did (opening (length first) .history .words) (o .session) left calls
+    → opens first left o
+    → Made bookkeeper (Answered says) (opening (length first) .history .words) (o .session) left calls
     → commandsOf bookkeeper calls ≡ e .commands
     → AllLent bookkeeper (e .words) calls
     → Gives e o calls
 
--- for each example of a list
-abbrev pub ShowsAll : OpeningSays → CallSays → List Example → Type 0
-ShowsAll opened did [] = Unit {0}
-ShowsAll opened did (e ∷ es) = Shows opened did e × ShowsAll opened did es
+-- each example of a list is always given
+abbrev pub AllGiven : OpeningSays → CommandSays → List Example → Type 0
+AllGiven opens says [] = Unit {0}
+AllGiven opens says (e ∷ es) = AlwaysGives opens says e × AllGiven opens says es
 
 -- each call of a list was told t, and altered no word
 abbrev pub AllTold : Told → List (Call bookkeeper) → Type 0
@@ -40,10 +40,10 @@ AllTold t [] = Unit {0}
 AllTold t (c ∷ cs) = (c .told ≡ t) × (c .left ≡ c .lent) × AllTold t cs
 
 -- an opening below 576 words is followed by replies 4 only, whatever words are lent
-abbrev pub OnlyFours : OpeningSays → CallSays → Type 0
-OnlyFours opened did =
+abbrev pub OnlyFours : OpeningSays → CommandSays → Type 0
+OnlyFours opens says =
     (first left : List ℕ) (o : Answer) (calls : List (Call bookkeeper))
     → length first < 576
-    → opened first left o
-    → Made bookkeeper did 0 (o .session) left calls
+    → opens first left o
+    → Made bookkeeper (Answered says) 0 (o .session) left calls
     → AllTold (numbered 4) calls

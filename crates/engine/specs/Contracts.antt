@@ -1,5 +1,5 @@
--- The contracts of the five public calls: `Opens` of an opening, `Does` of a command. Each says what holds of any words, and what of those that keep a history, for the
--- induction over a run.
+-- The contracts of the public calls: `Opens` of an opening, `Does` of a command. Each says what holds of any session and any words, and then what holds of those that keep a
+-- history, which is what the induction over a run goes by.
 use mathlib.Core.Path.{_≡_}
 use mathlib.Core.List.{List}
 use Prim.Native.Nat.{ℕ, _<_}
@@ -8,10 +8,9 @@ use Rattle.history.specs.declared.Session.{Session}
 use Rattle.history.specs.declared.Command.{Command}
 use Rattle.history.specs.declared.Answer.{Answer}
 use Rattle.history.specs.Replies.{told}
-use Rattle.history.specs.Histories.{History, step, opening, bookkeeper}
+use Rattle.history.specs.Histories.{History, step, opening}
 use Rattle.history.specs.Sound.{Sound}
-use Rattle.runs.specs.Runs.{AsLent, Call}
-use Rattle.engine.specs.Demand.{CallSays}
+use Rattle.runs.specs.Runs.{AsLent}
 use Rattle.engine.specs.Promises.{Settled}
 use Rattle.engine.specs.Keeping.{Represents}
 
@@ -26,17 +25,9 @@ pub record Opens (before after : List ℕ) (r : Answer) : Type 0 where
 
 -- a command on the session s and the words `before`: on any of them as `Settled` says, and on those of a history as the bookkeeper does,
 -- with a session and words of the history that follows
-pub record Does (c : Command) (s : Session) (before after : List ℕ) (r : Answer) : Type 0 where
+pub record Does (s : Session) (c : Command) (before after : List ℕ) (r : Answer) : Type 0 where
   pub long : length after ≡ length before
   pub settled : Settled c s before after (r .session) (told (r .reply))
-  pub tells : (h : History) (lent : List ℕ) → Sound h → Represents h lent s before → told (r .reply) ≡ step h (length before) c .tells
-  pub represents : (h : History) (lent : List ℕ) → Sound h → Represents h lent s before
-      → Represents (step h (length before) c .history) lent (r .session) after
-
--- what a function answers to a command on a session and words is what the call says
-abbrev pub Answered : (Session → Command → List ℕ → List ℕ → Answer → Type 0) → CallSays
-Answered answers s c = (r : Answer) × answers s (c .command) (c .lent) (c .left) r × (c .told ≡ told (r .reply)) × (c .session ≡ r .session)
-
--- a call of which the contract is known
-abbrev pub Done : CallSays
-Done = Answered (λ s c lent left r. Does c s lent left r)
+  pub tells : (h : History) (first : List ℕ) → Sound h → Represents h first s before → told (r .reply) ≡ step h (length before) c .tells
+  pub represents : (h : History) (first : List ℕ) → Sound h → Represents h first s before
+      → Represents (step h (length before) c .history) first (r .session) after

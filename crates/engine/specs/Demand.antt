@@ -10,6 +10,7 @@ use Rattle.history.specs.declared.Position.{Position}
 use Rattle.history.specs.declared.Minimum.{Minimum}
 use Rattle.history.specs.declared.Standing.the-variants.{Unmarked}
 use Rattle.history.specs.declared.Session.{Session}
+use Rattle.history.specs.declared.Command.{Command}
 use Rattle.history.specs.declared.Command.the-variants.{Mark, Query}
 use Rattle.history.specs.declared.Answer.{Answer}
 use Rattle.history.specs.Minima.{Least}
@@ -17,14 +18,18 @@ use Rattle.history.specs.Replies.{showing, told}
 use Rattle.history.specs.Histories.{History, among, sessionOf, opening, bookkeeper}
 use Rattle.runs.specs.Runs.{AsLent, isOwn, Call, Made, Agrees, EachCall}
 
--- what is known of an opening's words, before and after, and its answer; and of a command's call on a session
+-- what is known of an opening: the words before and after, and its answer; and of a command: the session that went in, the command, the words before and after, and its answer
 abbrev pub OpeningSays : Type 1
 OpeningSays = List ℕ → List ℕ → Answer → Type 0
 
-abbrev pub CallSays : Type 1
-CallSays = Session → Call bookkeeper → Type 0
+abbrev pub CommandSays : Type 1
+CommandSays = Session → Command → List ℕ → List ℕ → Answer → Type 0
 
--- "After the opening", which was of the words `first` and left them as `left`. Here l is 0
+-- a call that was made of a command tells and returns what the command's function answered
+abbrev pub Answered : CommandSays → Session → Call bookkeeper → Type 0
+Answered says s c = (r : Answer) × says s (c .command) (c .lent) (c .left) r × (c .told ≡ told (r .reply)) × (c .session ≡ r .session)
+
+-- "After the opening", which found the words `first` and left them as `left`. Then l is 0, and the bound 512
 pub record OpeningAgrees (first left : List ℕ) (o : Answer) : Type 0 where
   pub tells : told (o .reply) ≡ opening (length first) .tells
   pub session : o .session ≡ sessionOf (opening (length first) .history)
@@ -33,7 +38,7 @@ pub record OpeningAgrees (first left : List ℕ) (o : Answer) : Type 0 where
 
 -- "and after every command in the list": one call, with the paper h before it and `later` after it. The opening's words were `first`, and are `now` after the call
 pub record Meets (n : ℕ) (first now : List ℕ) (h later : History) (c : Call bookkeeper) : Type 0 where
-  -- the reply, the session and the words are those of the bookkeeper
+  -- the reply, the session and the words are as the bookkeeper has them
   pub agrees : Agrees bookkeeper n first now h later c
   -- "A tap no earlier rule refuses is refused as full exactly when the opened number is active."
   pub full : c .command ≡ Mark → (h .words ≡ 0 → ⊥) → length (c .lent) ≡ h .words → h .standing ≡ Unmarked
@@ -41,14 +46,14 @@ pub record Meets (n : ℕ) (first now : List ℕ) (h later : History) (c : Call 
   -- DEMAND 2: "a query on an active tap gets the least value from the tap's position to the present and the place of that value"
   pub gets : (i : Position) → c .command ≡ Query i → isOwn n (c .lent) ≡ true → among i (h .active) ≡ true
       → (m : Minimum) × (c .told ≡ showing m) × Least (h .values) i m
-  -- and no other query is shown anything
+  -- and a query on another position is shown nothing
   pub shown : (i : Position) (m : Minimum) → c .command ≡ Query i → c .told .shown ≡ some m → (among i (h .active) ≡ true) × Least (h .values) i m
 
--- THE CLAIM, where `opened` is known of the opening and `did` of each call
-abbrev pub Demand3 : OpeningSays → CallSays → Type 0
-Demand3 opened did =
+-- THE CLAIM, of functions of which this is known
+abbrev pub Demand3 : OpeningSays → CommandSays → Type 0
+Demand3 opens says =
     (first left : List ℕ) (o : Answer) (calls : List (Call bookkeeper))
-    → let n : ℕ = opening (length first) .history .words in
-    opened first left o
-    → Made bookkeeper did n (o .session) left calls
-    → OpeningAgrees first left o × EachCall bookkeeper (Meets n first) n left (opening (length first) .history) calls
+    → let paper : History = opening (length first) .history in
+    opens first left o
+    → Made bookkeeper (Answered says) (paper .words) (o .session) left calls
+    → OpeningAgrees first left o × EachCall bookkeeper (Meets (paper .words) first) (paper .words) left paper calls

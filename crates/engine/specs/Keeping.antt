@@ -11,17 +11,17 @@ use Rattle.layout.specs.Layout.{capacity}
 use Rattle.table.specs.Marks.{Above}
 use Rattle.ranges.specs.Holding.{Holds}
 
--- the words keep the history h, opened on the words `lent`
-pub record Keeps (h : History) (lent words : List ℕ) : Type 0 where
+-- the words keep the history h, and were `first` just before its opening
+pub record Keeps (h : History) (first words : List ℕ) : Type 0 where
   -- they hold the values' range minima for the active marks
   pub holds : Holds words (h .values) (h .active)
   -- what lies beyond the bound is as it was, and the table ends below it
-  pub rest : AsLent (bookkeeper .bound h) lent words
+  pub rest : AsLent (bookkeeper .bound h) first words
   pub below : 16 + 8 * capacity words ≤ bookkeeper .bound h
   -- where the present position is unmarked, it comes after every row's, those of closed marks too
   pub fresh : h .standing ≡ Unmarked → Above words (presentOf h)
 
 -- the session is the history's, and so are words of the opened length
-pub record Represents (h : History) (lent : List ℕ) (s : Session) (words : List ℕ) : Type 0 where
+pub record Represents (h : History) (first : List ℕ) (s : Session) (words : List ℕ) : Type 0 where
   pub session : s ≡ sessionOf h
-  pub own : (h .words ≡ 0 → ⊥) → length words ≡ h .words → Keeps h lent words
+  pub own : (h .words ≡ 0 → ⊥) → length words ≡ h .words → Keeps h first words

@@ -12,12 +12,10 @@ use Rattle.history.specs.declared.Session.{Session}
 use Rattle.history.specs.declared.Command.{Command}
 use Rattle.history.specs.declared.Command.the-variants.{Value, Mark, Query, Close}
 use Rattle.history.specs.declared.Answer.{Answer}
-use Rattle.history.specs.Replies.{Told, numbered, accepted, showing, told}
-use Rattle.history.specs.Refusals.{refusal}
-use Rattle.history.specs.Histories.{blank, sessionOf, bookkeeper}
+use Rattle.history.specs.Replies.{Told, numbered, accepted, showing, told, refusal}
+use Rattle.history.specs.Histories.{blank, sessionOf}
 use Rattle.history.specs.Sessions.{sessionAfter}
-use Rattle.runs.specs.Runs.{Call}
-use Rattle.engine.specs.Demand.{OpeningSays, CallSays}
+use Rattle.engine.specs.Demand.{OpeningSays, CommandSays}
 
 -- "In each refusal the session comes back equal .. and the area is untouched; .. no value or place is shown."
 pub record AfterRefusal (n : ℕ) (s : Session) (before after : List ℕ) (t : Session) (a : Told) : Type 0 where
@@ -32,14 +30,14 @@ shows Mark m = accepted
 shows (Query i) m = showing m
 shows (Close i) m = accepted
 
--- what a Query leaves as it is: the words, and the count of active marks. After another command's acceptance both are free
+-- what a Query leaves as it is: the words, and the count of active marks
 abbrev pub Unaltered : Command → Session → ℕ → List ℕ → List ℕ → Type 0
 Unaltered (Value v) s counted before after = Unit {0}
 Unaltered Mark s counted before after = Unit {0}
 Unaltered (Query i) s counted before after = (after ≡ before) × (counted ≡ s .active)
 Unaltered (Close i) s counted before after = Unit {0}
 
--- accepted. Free on words that no call left: the count of active marks, the minimum shown, and what stands in the words
+-- accepted. Free on words that no call left: the minimum shown and, but for a Query, the count of active marks and what then stands in the words
 pub record AfterAcceptance (c : Command) (s : Session) (before after : List ℕ) (t : Session) (a : Told) : Type 0 where
   pub counted : ℕ
   pub found : Minimum
@@ -65,11 +63,12 @@ pub record Settled (c : Command) (s : Session) (before after : List ℕ) (t : Se
 
 -- THE DEMAND, of every session and every words, whether or not a call returned them. That no word outside the ends is read or written and that each call ends is what
 -- the checker shows of every function
-pub record Demand1 (opened : OpeningSays) (did : CallSays) : Type 0 where
+pub record Demand1 (opens : OpeningSays) (says : CommandSays) : Type 0 where
   -- "a refusal changes no word of the memory and nothing in the session"
-  pub refusedOpening : (first left : List ℕ) (o : Answer) → opened first left o → (told (o .reply) .number ≡ 0 → ⊥)
+  pub refusedOpening : (first left : List ℕ) (o : Answer) → opens first left o → (told (o .reply) .number ≡ 0 → ⊥)
       → (left ≡ first) × (o .session ≡ sessionOf (blank 0 0))
-  pub refusedCommand : (s : Session) (c : Call bookkeeper) → did s c → (c .told .number ≡ 0 → ⊥) → (c .left ≡ c .lent) × (c .session ≡ s)
+  pub refusedCommand : (s : Session) (c : Command) (lent left : List ℕ) (r : Answer) → says s c lent left r → (told (r .reply) .number ≡ 0 → ⊥)
+      → (left ≡ lent) × (r .session ≡ s)
   -- "A wrong command is refused by the numbers of document 01", and a right one is not
-  pub settled : (s : Session) (c : Call bookkeeper) → did s c
-      → (length (c .left) ≡ length (c .lent)) × Settled (c .command) s (c .lent) (c .left) (c .session) (c .told)
+  pub settled : (s : Session) (c : Command) (lent left : List ℕ) (r : Answer) → says s c lent left r
+      → (length left ≡ length lent) × Settled c s lent left (r .session) (told (r .reply))

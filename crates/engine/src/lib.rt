@@ -6,7 +6,7 @@ ghost use lib.ListN.{length};
 ghost use Rattle.history.specs.declared.Command.the-variants.{Value, Mark, Query, Close};
 ghost use Rattle.history.specs.declared.Event.{Event};
 ghost use Rattle.history.specs.Minima.{standsAt};
-ghost use Rattle.history.specs.Standings.{allowing, nextStanding};
+ghost use Rattle.history.specs.Standings.{allowing, transitionOf};
 ghost use Rattle.history.specs.Histories.{limitOf};
 ghost use Rattle.engine.specs.Contracts.{Opens, Does};
 ghost use Rattle.engine.specs.Private.{refusedWith, acceptedWith, Seeks};
@@ -97,7 +97,7 @@ pub fn open(area: &mut [u64]) -> Answer
 
 // The next value of the stream: it lowers each active mark's range minimum that is not below it.
 pub fn value(s: Session, area: &mut [u64], v: i32) -> Answer
-    ensures { λ r. ⌜ Does (Value v) s (now (area .entry)) (now (area .exit)) r ⌝ }
+    ensures { λ r. ⌜ Does s (Value v) (now (area .entry)) (now (area .exit)) r ⌝ }
 {
     let words = s.words;
     if words == 0 {
@@ -119,7 +119,7 @@ pub fn value(s: Session, area: &mut [u64], v: i32) -> Answer
         },
     );
     let standing = s.standing;
-    let transition = history::next_standing(standing, Event::Value);
+    let transition = history::transition_of(Event::Value, standing);
     let after = transition.after;
     accept(s, next, v, s.active, after)
 }
@@ -137,8 +137,8 @@ fn at_present(s: Session) -> Minimum
 
 // A Mark that the standing has nothing against. Nothing is written before it is known to be accepted.
 fn mark_allowed(s: Session, area: &mut [u64], after: Standing) -> Answer
-    requires { ⌜ (s .words ≡ 0 → ⊥) × (length (now area) ≡ s .words) × (nextStanding (s .standing) Event.Mark ≡ allowing after) ⌝ }
-    ensures { λ r. ⌜ Does Mark s (now (area .entry)) (now (area .exit)) r ⌝ }
+    requires { ⌜ (s .words ≡ 0 → ⊥) × (length (now area) ≡ s .words) × (transitionOf Event.Mark (s .standing) ≡ allowing after) ⌝ }
+    ensures { λ r. ⌜ Does s Mark (now (area .entry)) (now (area .exit)) r ⌝ }
 {
     let active = s.active;
     if active == s.limit {
@@ -155,7 +155,7 @@ fn mark_allowed(s: Session, area: &mut [u64], after: Standing) -> Answer
 
 // The present position becomes an active mark.
 pub fn mark(s: Session, area: &mut [u64]) -> Answer
-    ensures { λ r. ⌜ Does Mark s (now (area .entry)) (now (area .exit)) r ⌝ }
+    ensures { λ r. ⌜ Does s Mark (now (area .entry)) (now (area .exit)) r ⌝ }
 {
     let words = s.words;
     if words == 0 {
@@ -165,7 +165,7 @@ pub fn mark(s: Session, area: &mut [u64]) -> Answer
         return refuse(s, Refusal::OtherLength);
     }
     let standing = s.standing;
-    let transition = history::next_standing(standing, Event::Mark);
+    let transition = history::transition_of(Event::Mark, standing);
     let due = transition.due;
     let after = transition.after;
     match due {
@@ -190,7 +190,7 @@ fn seek(s: Session, area: &[u64], i: Position) -> Found
 
 // The range minimum since an active mark. The area is only read.
 pub fn query(s: Session, area: &[u64], i: Position) -> Answer
-    ensures { λ r. ⌜ Does (Query i) s (now (area .entry)) (now (area .entry)) r ⌝ }
+    ensures { λ r. ⌜ Does s (Query i) (now (area .entry)) (now (area .entry)) r ⌝ }
 {
     let words = s.words;
     if words == 0 {
@@ -215,7 +215,7 @@ pub fn query(s: Session, area: &[u64], i: Position) -> Answer
 
 // An active mark is forgotten.
 pub fn close(s: Session, area: &mut [u64], i: Position) -> Answer
-    ensures { λ r. ⌜ Does (Close i) s (now (area .entry)) (now (area .exit)) r ⌝ }
+    ensures { λ r. ⌜ Does s (Close i) (now (area .entry)) (now (area .exit)) r ⌝ }
 {
     let words = s.words;
     if words == 0 {
@@ -234,7 +234,7 @@ pub fn close(s: Session, area: &mut [u64], i: Position) -> Answer
     }
     let present = s.present;
     let standing = s.standing;
-    let transition = history::next_standing(standing, history::close_event(present, i));
+    let transition = history::transition_of(history::close_event(present, i), standing);
     let after = transition.after;
     table::release(area, held);
     accept(s, present, s.last, active - 1, after)
@@ -242,7 +242,7 @@ pub fn close(s: Session, area: &mut [u64], i: Position) -> Answer
 
 // Any command.
 pub fn apply(s: Session, area: &mut [u64], command: Command) -> Answer
-    ensures { λ r. ⌜ Does command s (now (area .entry)) (now (area .exit)) r ⌝ }
+    ensures { λ r. ⌜ Does s command (now (area .entry)) (now (area .exit)) r ⌝ }
 {
     match command {
         Command::Value(v) => value(s, area, v),

@@ -2,7 +2,7 @@
 -- least value since an active mark, which every active mark's Query is shown.
 use mathlib.Core.Path.{_≡_, refl, sym, ap, _∙_}
 use mathlib.Core.Bool.{Bool, true, false, cond}
-use mathlib.Core.List.{List, [], _∷_}
+use mathlib.Core.List.{[], _∷_}
 use mathlib.Core.Option.{none, some}
 use Prim.Native.Nat.{ℕ}
 use native.Mathlib.Omega.{arith}
@@ -16,11 +16,11 @@ use Rattle.history.specs.declared.Standing.{Standing}
 use Rattle.history.specs.declared.Standing.the-variants.{Unmarked}
 use Rattle.history.specs.declared.Command.{Command}
 use Rattle.history.specs.declared.Command.the-variants.{Value, Mark, Query, Close}
+use Rattle.history.specs.declared.Event.{Event}
 use Rattle.history.specs.Minima.{minimum, Least}
-use Rattle.history.specs.Replies.{Told, showing}
-use Rattle.history.specs.Standings.{onMark}
-use Rattle.history.specs.Refusals.{markRefusal}
-use Rattle.history.specs.Histories.{History, Stepped, sessionOf, among, isActive, accept, due, step}
+use Rattle.history.specs.Replies.{showing, markRefusal}
+use Rattle.history.specs.Standings.{transitionOf}
+use Rattle.history.specs.Histories.{History, Stepped, sessionOf, among, isActive, accept, refusalOf, step}
 use Rattle.history.specs.Sessions.{sessionAfter}
 use Rattle.history.specs.Sound.{Sound}
 use Rattle.history.proofs.Lowest.{lastOf-more, minimum-least}
@@ -54,8 +54,8 @@ module _ (h : History) (n : ℕ) (z : h .words ≡ 0 → ⊥) (o : n ≡ h .word
         (step-refused h n Mark 10 (marks ∙ ap (λ (b : Bool). cond b 10 0) (eq-eqb (length (h .active)) (h .limit) q)) (λ x. omega arith))),
   )
     where
-      marks : due h n Mark ≡ cond (eqb (length (h .active)) (h .limit)) 10 0
-      marks = refusal-own (sessionOf h) n (isActive h Mark) Mark z o ∙ ap (λ (k : Standing). markRefusal (sessionOf h) (onMark k .due)) u
+      marks : refusalOf h n Mark ≡ cond (eqb (length (h .active)) (h .limit)) 10 0
+      marks = refusal-own (sessionOf h) n (isActive h Mark) Mark z o ∙ ap (λ (k : Standing). markRefusal (sessionOf h) (transitionOf Event.Mark k .due)) u
 
   -- a Query of an active mark is shown its minimum
   pub told-minimum : (i : Position) → among i (h .active) ≡ true → step h n (Query i) .tells ≡ showing (minimum (h .values) i)
@@ -70,7 +70,7 @@ active-least h i s a = let r = rising-among i (s .rising) a in minimum-least (h 
 -- what a Query is shown is the minimum of an active mark
 pub shown-minimum : (h : History) (n : ℕ) (i : Position) (m : Minimum) → step h n (Query i) .tells .shown ≡ some m
     → (among i (h .active) ≡ true) × (m ≡ minimum (h .values) i)
-shown-minimum h n i m e = elim (ℕ-discrete (due h n (Query i)) 0) [
+shown-minimum h n i m e = elim (ℕ-discrete (refusalOf h n (Query i)) 0) [
   | yes q ↦
       let x : some (minimum (h .values) i) ≡ some m = sym (ap (λ (x : Stepped). x .tells .shown) (step-accepted h n (Query i) q)) ∙ e in
       let y : minimum (h .values) i ≡ m = cc in
@@ -81,7 +81,7 @@ shown-minimum h n i m e = elim (ℕ-discrete (due h n (Query i)) 0) [
       ] in
       (is-active (among i (h .active)) (sym (refusal-own (sessionOf h) n (isActive h (Query i)) (Query i) z o) ∙ q), sym y)
   | no q ↦
-      let x : none ≡ some m = sym (ap (λ (x : Stepped). x .tells .shown) (step-refused h n (Query i) (due h n (Query i)) refl q)) ∙ e in
+      let x : none ≡ some m = sym (ap (λ (x : Stepped). x .tells .shown) (step-refused h n (Query i) (refusalOf h n (Query i)) refl q)) ∙ e in
       absurd (let y : _≡_ {A = ℕ} 0 1 = cc in omega arith)
 ]
   where

@@ -1,27 +1,26 @@
 -- Every history that an opening and commands lead to is sound. A Value moves the end of the positions, a Mark adds the one position that an unmarked standing has free,
 -- and a Close strikes one; a Mark is accepted only where fewer than K are active, so that l stays within K.
-use mathlib.Core.Path.{_≡_, refl, sym, ap, _∙_}
-use mathlib.Core.Bool.{Bool, true, false, cond, _||_, false≢true}
+use mathlib.Core.Path.{_≡_, refl, sym, _∙_}
+use mathlib.Core.Bool.{Bool, true, false, cond, false≢true}
 use mathlib.Core.List.{List, [], _∷_, _++_}
-use Prim.Native.Nat.{ℕ, _+_, _*_, _-_, _<_, _≤_, max}
+use Prim.Native.Nat.{ℕ, _+_, _*_, _-_, _<_, _≤_}
 use native.Mathlib.Omega.{arith}
 use native.Mathlib.Decide.{ℕ-discrete, decLt}
 use lib.Dec.{eqb}
 use lib.IntN.{ℤ}
 use lib.ListN.{length, length-append}
-use borrow.Author.Tests.{eq-eqb, ne-eqb, eqb-true, eqb-false}
+use borrow.Author.Tests.{eq-eqb, ne-eqb, eqb-false}
 use Rattle.history.specs.declared.Position.{Position}
 use Rattle.history.specs.declared.Standing.{Standing}
-use Rattle.history.specs.declared.Standing.the-variants.{None, Unmarked, Marked, Closed}
+use Rattle.history.specs.declared.Standing.the-variants.{Unmarked, Marked}
 use Rattle.history.specs.declared.Command.{Command}
 use Rattle.history.specs.declared.Command.the-variants.{Value, Mark, Query, Close}
 use Rattle.history.specs.declared.Event.{Event}
 use Rattle.history.specs.declared.Due.{Due}
 use Rattle.history.specs.declared.Due.the-variants.{Nothing, Refused}
-use Rattle.history.specs.Replies.{numberOf}
-use Rattle.history.specs.Standings.{eventOf, nextStanding}
-use Rattle.history.specs.Refusals.{markRefusal, refusal}
-use Rattle.history.specs.Histories.{History, Stepped, presentOf, sessionOf, limitOf, blank, opening, among, without, isActive, valued, marked, closed, accept, refuse, due, step}
+use Rattle.history.specs.Replies.{markRefusal}
+use Rattle.history.specs.Standings.{transitionOf}
+use Rattle.history.specs.Histories.{History, presentOf, sessionOf, limitOf, blank, opening, among, without, accept, refusalOf, step}
 use Rattle.history.specs.Sound.{Rising, done, then, Sound}
 use Rattle.history.proofs.Steps.{some-number, refusal-unopened, refusal-other, refusal-own, unmarked-only, marked-after, step-refused, step-accepted, opening-refused, opening-accepted}
 
@@ -83,12 +82,12 @@ never-more (p ∷ ps) i = go (never-more ps i) (eqb (i .0) (p .0))
     go f false = omega arith
 
 -- a Close that leaves the present position unmarked found it so
-pub was-unmarked : (k : Standing) (b : Bool) → nextStanding k (cond b Event.CloseOfPresent Event.Other) .after ≡ Unmarked → k ≡ Unmarked
+pub was-unmarked : (k : Standing) (b : Bool) → transitionOf (cond b Event.CloseOfPresent Event.Other) k .after ≡ Unmarked → k ≡ Unmarked
 was-unmarked k true e = cc
 was-unmarked k false e = e
 
 module _ (h : History) (s : Sound h) where
-  value-sound : (v : ℤ) → Sound (valued h v)
+  value-sound : (v : ℤ) → Sound (accept h (Value v) .history)
   value-sound v =
       let n = length-append (h .values) (v ∷ []) in
       record {
@@ -101,11 +100,11 @@ module _ (h : History) (s : Sound h) where
         fresh = λ _. wider (omega arith) (omega arith) (s .rising);
       }
 
-  mark-sound : nextStanding (h .standing) Event.Mark .due ≡ Nothing → (length (h .active) ≡ h .limit → ⊥) → Sound (marked h)
+  mark-sound : transitionOf Event.Mark (h .standing) .due ≡ Nothing → (length (h .active) ≡ h .limit → ⊥) → Sound (accept h Mark .history)
   mark-sound f n =
       let m = length-append (h .active) (presentOf h ∷ []) in
       let u = unmarked-only (h .standing) f in
-      let k : marked h .standing ≡ Marked = marked-after (h .standing) f in
+      let k : accept h Mark .history .standing ≡ Marked = marked-after (h .standing) f in
       record {
         few = s .few;
         wide = s .wide;
@@ -116,7 +115,7 @@ module _ (h : History) (s : Sound h) where
         fresh = λ e. absurd (let z : _≡_ {A = ℕ} 0 1 = cc in omega arith);
       }
 
-  close-sound : (i : Position) → Sound (closed h i)
+  close-sound : (i : Position) → Sound (accept h (Close i) .history)
   close-sound i = record {
     few = s .few;
     wide = s .wide;
@@ -128,11 +127,11 @@ module _ (h : History) (s : Sound h) where
   }
 
   -- a Mark to which no refusal applies: the standing has nothing against it, and fewer than K are active
-  free : (n : ℕ) → due h n Mark ≡ 0 → (nextStanding (h .standing) Event.Mark .due ≡ Nothing) × (length (h .active) ≡ h .limit → ⊥)
+  free : (n : ℕ) → refusalOf h n Mark ≡ 0 → (transitionOf Event.Mark (h .standing) .due ≡ Nothing) × (length (h .active) ≡ h .limit → ⊥)
   free n e = elim (ℕ-discrete (h .words) 0) [
     | yes z ↦ absurd (omega (arith, refusal-unopened (sessionOf h) n false Mark z))
     | no z ↦ elim (ℕ-discrete n (h .words)) [
-      | yes o ↦ by (nextStanding (h .standing) Event.Mark .due) (sym (refusal-own (sessionOf h) n false Mark z o) ∙ e)
+      | yes o ↦ by (transitionOf Event.Mark (h .standing) .due) (sym (refusal-own (sessionOf h) n false Mark z o) ∙ e)
       | no o ↦ absurd (omega (arith, refusal-other (sessionOf h) n false Mark z o))
     ]
   ]
@@ -145,7 +144,7 @@ module _ (h : History) (s : Sound h) where
       by (Refused why) e = absurd (some-number why e)
       by Nothing e = (refl, eqb-false (length (h .active)) (h .limit) (room (eqb (length (h .active)) (h .limit)) e))
 
-  accept-sound : (n : ℕ) (c : Command) → due h n c ≡ 0 → Sound (accept h c .history)
+  accept-sound : (n : ℕ) (c : Command) → refusalOf h n c ≡ 0 → Sound (accept h c .history)
   accept-sound n (Value v) e = value-sound v
   accept-sound n Mark e = let f = free n e in mark-sound (f .0) (f .1)
   accept-sound n (Query i) e = s
@@ -153,9 +152,9 @@ module _ (h : History) (s : Sound h) where
 
   -- A COMMAND KEEPS A HISTORY SOUND, accepted or refused
   pub step-sound : (n : ℕ) (c : Command) → Sound (step h n c .history)
-  step-sound n c = elim (ℕ-discrete (due h n c) 0) [
+  step-sound n c = elim (ℕ-discrete (refusalOf h n c) 0) [
     | yes e ↦ rw (step-accepted h n c e) (accept-sound n c e)
-    | no e ↦ rw (step-refused h n c (due h n c) refl e) s
+    | no e ↦ rw (step-refused h n c (refusalOf h n c) refl e) s
   ]
 
 -- AN OPENING IS SOUND, accepted or refused

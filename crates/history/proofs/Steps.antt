@@ -1,10 +1,10 @@
 -- The refusals, the opening and the bookkeeper's steps, by the tests that decide them.
-use mathlib.Core.Path.{_≡_, refl, sym, ap, _∙_}
+use mathlib.Core.Path.{_≡_, refl, ap}
 use mathlib.Core.Bool.{Bool, true, false, cond}
 use Prim.Native.Nat.{ℕ, _<_, _≤_}
 use native.Mathlib.Decide.{decLt}
 use native.Mathlib.Omega.{arith}
-use lib.Dec.{eqb, ltb}
+use lib.Dec.{eqb}
 use borrow.Author.Tests.{eq-eqb, ne-eqb, lt-ltb, le-ltb}
 use Rattle.history.specs.declared.Standing.{Standing}
 use Rattle.history.specs.declared.Standing.the-variants.{None, Unmarked, Marked, Closed}
@@ -15,10 +15,9 @@ use Rattle.history.specs.declared.Event.{Event}
 use Rattle.history.specs.declared.Due.the-variants.{Nothing}
 use Rattle.history.specs.declared.Refusal.{Refusal}
 use Rattle.history.specs.declared.Refusal.the-variants.{AreaTooShort, UnknownKind, ArgumentCutOff, Unopened, OtherLength, LastPosition, NothingToMark, AlreadyMarked, AlreadyClosed, Full, NotActive}
-use Rattle.history.specs.Replies.{numbered, accepted, numberOf}
-use Rattle.history.specs.Standings.{onMark, nextStanding}
-use Rattle.history.specs.Refusals.{ownRefusal, refusal}
-use Rattle.history.specs.Histories.{History, Stepped, limitOf, blank, opening, accept, refuse, due, step}
+use Rattle.history.specs.Replies.{numbered, accepted, numberOf, ownRefusal, refusal}
+use Rattle.history.specs.Standings.{transitionOf}
+use Rattle.history.specs.Histories.{History, Stepped, limitOf, blank, opening, accept, refusalOf, step}
 
 -- no refusal has the number of an acceptance
 pub some-number : (r : Refusal) → numberOf r ≡ 0 → ⊥
@@ -45,21 +44,25 @@ module _ (s : Session) (n : ℕ) (b : Bool) (c : Command) where
   refusal-own z o = rw (ne-eqb (s .words) 0 z, eq-eqb n (s .words) o)
 
 -- the standing has nothing against a Mark where it is unmarked, and only there
-pub unmarked-only : (k : Standing) → nextStanding k Event.Mark .due ≡ Nothing → k ≡ Unmarked
+pub unmarked-only : (k : Standing) → transitionOf Event.Mark k .due ≡ Nothing → k ≡ Unmarked
 unmarked-only None e = cc
 unmarked-only Unmarked e = refl
 unmarked-only Marked e = cc
 unmarked-only Closed e = cc
 
 -- and then it is not unmarked any more
-pub marked-after : (k : Standing) → nextStanding k Event.Mark .due ≡ Nothing → nextStanding k Event.Mark .after ≡ Marked
-marked-after k e = ap (λ (x : Standing). onMark x .after) (unmarked-only k e)
+pub marked-after : (k : Standing) → transitionOf Event.Mark k .due ≡ Nothing → transitionOf Event.Mark k .after ≡ Marked
+marked-after k e = ap (λ (x : Standing). transitionOf Event.Mark x .after) (unmarked-only k e)
+
+-- a command that is refused with k, on the history h
+abbrev pub refused : History → ℕ → Stepped
+refused h k = record { history = h; tells = numbered k }
 
 module _ (h : History) (n : ℕ) (c : Command) where
-  pub step-refused : (k : ℕ) → due h n c ≡ k → (k ≡ 0 → ⊥) → step h n c ≡ refuse h k
+  pub step-refused : (k : ℕ) → refusalOf h n c ≡ k → (k ≡ 0 → ⊥) → step h n c ≡ refused h k
   step-refused k e z = rw (e, ne-eqb k 0 z)
 
-  pub step-accepted : due h n c ≡ 0 → step h n c ≡ accept h c
+  pub step-accepted : refusalOf h n c ≡ 0 → step h n c ≡ accept h c
   step-accepted e = rw (e)
 
 -- no command alters the opened length
@@ -70,9 +73,9 @@ accept-words h (Query i) = refl
 accept-words h (Close i) = refl
 
 pub step-words : (h : History) (n : ℕ) (c : Command) → step h n c .history .words ≡ h .words
-step-words h n c = go (eqb (due h n c) 0)
+step-words h n c = go (eqb (refusalOf h n c) 0)
   where
-    go : (b : Bool) → cond b (accept h c) (refuse h (due h n c)) .history .words ≡ h .words
+    go : (b : Bool) → cond b (accept h c) (refused h (refusalOf h n c)) .history .words ≡ h .words
     go true = accept-words h c
     go false = refl
 

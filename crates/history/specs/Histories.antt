@@ -5,18 +5,16 @@ use Prim.Native.Nat.{ℕ, _+_, _*_, _-_, _/_, min, max}
 use lib.IntN.{ℤ}
 use lib.Dec.{ltb, eqb}
 use lib.ListN.{length}
+use Rattle.runs.specs.Runs.{Bookkeeper}
 use Rattle.history.specs.declared.Position.{Position}
 use Rattle.history.specs.declared.Standing.{Standing}
 use Rattle.history.specs.declared.Standing.the-variants.{None}
 use Rattle.history.specs.declared.Session.{Session}
 use Rattle.history.specs.declared.Command.{Command}
 use Rattle.history.specs.declared.Command.the-variants.{Value, Mark, Query, Close}
-use Rattle.history.specs.declared.Event.{Event}
 use Rattle.history.specs.Minima.{presentAt, lastOf, minimum}
-use Rattle.history.specs.Replies.{Told, numbered, accepted, showing}
-use Rattle.history.specs.Standings.{eventOf, nextStanding}
-use Rattle.history.specs.Refusals.{refusal}
-use Rattle.runs.specs.Runs.{Bookkeeper}
+use Rattle.history.specs.Standings.{eventOf, transitionOf}
+use Rattle.history.specs.Replies.{Told, numbered, accepted, showing, refusal}
 
 -- "On the paper stand N, K, the values in order, the active taps, the standing and l."
 -- `words` is N, `limit` is K, and `peak` is l; the values stand in the order of their positions, the active marks in ascending order
@@ -43,7 +41,7 @@ sessionOf h = record {
   standing = h .standing;
 }
 
--- the history after a command, and what the command is told
+-- the history after an opening or a command, and what it is told
 pub record Stepped : Type 0 where
   pub history : History
   pub tells : Told
@@ -77,57 +75,45 @@ isActive h Mark = false
 isActive h (Query i) = among i (h .active)
 isActive h (Close i) = among i (h .active)
 
--- the paper after an event at the present position. N and K stay
-abbrev pub rewritten : History → Event → List ℤ → List Position → ℕ → History
-rewritten h event values active peak = record {
+-- the history after the command c, with these values, active marks and l. N and K stay, and the standing follows from the command
+abbrev pub becomes : History → Command → List ℤ → List Position → ℕ → History
+becomes h c values active peak = record {
   words = h .words;
   limit = h .limit;
   values = values;
   active = active;
-  standing = nextStanding (h .standing) event .after;
+  standing = transitionOf (eventOf (presentOf h) c) (h .standing) .after;
   peak = peak;
 }
 
--- "Value: it is written after the others; standing unmarked."
-abbrev pub valued : History → ℤ → History
-valued h v = rewritten h Event.Value (h .values ++ (v ∷ [])) (h .active) (h .peak)
-
--- "Mark: the present position joins the taps; standing marked. l rises to the number of taps where that is more."
-abbrev pub marked : History → History
-marked h = rewritten h Event.Mark (h .values) (h .active ++ (presentOf h ∷ [])) (max (h .peak) (length (h .active ++ (presentOf h ∷ []))))
-
--- "Close: its position is struck from the taps. If it is the present position, standing is closed."
-abbrev pub closed : History → Position → History
-closed h i = rewritten h (eventOf (presentOf h) (Close i)) (h .values) (without i (h .active)) (h .peak)
-
--- a command to which no refusal applies "gets reply 0, as follows"
+-- "Any other gets reply 0, as follows."
 abbrev pub accept : History → Command → Stepped
-accept h (Value v) = record { history = valued h v; tells = accepted }
-accept h Mark = record { history = marked h; tells = accepted }
+-- "Value: it is written after the others; standing unmarked."
+accept h (Value v) = record { history = becomes h (Value v) (h .values ++ (v ∷ [])) (h .active) (h .peak); tells = accepted }
+-- "Mark: the present position joins the taps; standing marked. l rises to the number of taps where that is more."
+accept h Mark = let joined : List Position = h .active ++ (presentOf h ∷ []) in record { history = becomes h Mark (h .values) joined (max (h .peak) (length joined)); tells = accepted }
 -- "Query: the reply shows the dip, taken over the written values; the paper stays."
 accept h (Query i) = record { history = h; tells = showing (minimum (h .values) i) }
-accept h (Close i) = record { history = closed h i; tells = accepted }
+-- "Close: its position is struck from the taps. If it is the present position, standing is closed."
+accept h (Close i) = record { history = becomes h (Close i) (h .values) (without i (h .active)) (h .peak); tells = accepted }
+
+-- the refusal that applies to a command lent n words; 0: none
+abbrev pub refusalOf : History → ℕ → Command → ℕ
+refusalOf h n c = refusal (sessionOf h) n (isActive h c) c
 
 -- "A command to which a refusal above applies .. gets the first such number in checking order, and the paper stays."
-abbrev pub refuse : History → ℕ → Stepped
-refuse h n = record { history = h; tells = numbered n }
-
--- the refusal that applies to a command lent so many words; 0: none
-abbrev pub due : History → ℕ → Command → ℕ
-due h lent c = refusal (sessionOf h) lent (isActive h c) c
-
 abbrev pub step : History → ℕ → Command → Stepped
-step h lent c = cond (eqb (due h lent c) 0) (accept h c) (refuse h (due h lent c))
+step h n c = cond (eqb (refusalOf h n c) 0) (accept h c) (record { history = h; tells = numbered (refusalOf h n c) })
 
--- the bookkeeper of demand 3, as one of those that runs are held to: "every word from index 512 + 64 × l on is still as it was lent"
+-- the bookkeeper of demand 3, for runs: "every word from index 512 + 64 × l on is still as it was lent"
 abbrev pub bookkeeper : Bookkeeper
 bookkeeper = record {
   Command = Command;
   Told = Told;
   Session = Session;
   Paper = History;
-  step = λ h lent c. step h lent c .history;
-  tells = λ h lent c. step h lent c .tells;
+  step = λ h n c. step h n c .history;
+  tells = λ h n c. step h n c .tells;
   sessionOf = λ h. sessionOf h;
   words = λ h. h .words;
   bound = λ h. 512 + 64 * h .peak;

@@ -1,7 +1,6 @@
 pub mod Minima
-pub mod Replies
 pub mod Standings
-pub mod Refusals
+pub mod Replies
 pub mod Histories
 pub mod Sessions
 pub mod Sound

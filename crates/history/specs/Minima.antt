@@ -1,6 +1,4 @@
--- The range minimum of a mark, document 01's "dip". It names values and positions, and nothing of the engine.
--- A `Minimum` is a value and the position where it stands; `lower` is the lower of two of them, `lowest` of all from a position on,
--- `minimum` of all since a mark; `Least` says what makes it the least.
+-- The range minimum of a mark, document 01's "dip": `lower` is the lower of two, `lowest` of all from a position on, `minimum` of all since a mark.
 use mathlib.Core.Path.{_≡_}
 use mathlib.Core.Bool.{Bool, true, false, cond}
 use mathlib.Core.List.{List, [], _∷_}

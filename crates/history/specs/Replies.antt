@@ -1,11 +1,19 @@
--- Document 01, "Replies in checking order": the number of each reply, and what it shows.
+-- Document 01, "Replies in checking order": the number of each reply, what it shows, and which refusal is the first that applies.
+use mathlib.Core.Bool.{Bool, cond}
 use mathlib.Core.Option.{Option, none, some}
 use Prim.Native.Nat.{ℕ}
+use lib.Dec.{eqb}
+use Rattle.history.specs.declared.Position.{Position}
 use Rattle.history.specs.declared.Minimum.{Minimum}
+use Rattle.history.specs.declared.Session.{Session}
+use Rattle.history.specs.declared.Command.{Command}
+use Rattle.history.specs.declared.Command.the-variants.{Value, Mark, Query, Close}
 use Rattle.history.specs.declared.Refusal.{Refusal}
 use Rattle.history.specs.declared.Refusal.the-variants.{AreaTooShort, UnknownKind, ArgumentCutOff, Unopened, OtherLength, LastPosition, NothingToMark, AlreadyMarked, AlreadyClosed, Full, NotActive}
 use Rattle.history.specs.declared.Reply.{Reply}
-use Rattle.history.specs.declared.Reply.the-variants.{Accepted, Lowest, Refused}
+use Rattle.history.specs.declared.Event.{Event}
+use Rattle.history.specs.declared.Due.{Due}
+use Rattle.history.specs.Standings.{transitionOf}
 
 -- what a caller is told: the paper's number and, "for Query", "value and place"
 pub record Told : Type 0 where
@@ -38,6 +46,26 @@ numberOf Full = 10
 numberOf NotActive = 11
 
 abbrev pub told : Reply → Told
-told Accepted = accepted
-told (Lowest m) = showing m
-told (Refused r) = numbered (numberOf r)
+told Reply.Accepted = accepted
+told (Reply.Lowest m) = showing m
+told (Reply.Refused why) = numbered (numberOf why)
+
+-- "The highest is 4,294,967,295."
+abbrev pub highest : Position
+highest = record { 0 = 4294967295 }
+
+-- 7 to 10, of a Mark: what is due by the standing, and then "when exactly K taps are active"
+abbrev pub markRefusal : Session → Due → ℕ
+markRefusal s (Due.Refused why) = numberOf why
+markRefusal s Due.Nothing = cond (eqb (s .active) (s .limit)) 10 0
+
+-- 6 to 11, on an area of the opened length; 0: none applies. `isActive`: whether the command's position is an active mark
+abbrev pub ownRefusal : Session → Bool → Command → ℕ
+ownRefusal s isActive (Value v) = cond (eqb (s .present .0) (highest .0)) 6 0
+ownRefusal s isActive Mark = markRefusal s (transitionOf Event.Mark (s .standing) .due)
+ownRefusal s isActive (Query i) = cond isActive 0 11
+ownRefusal s isActive (Close i) = cond isActive 0 11
+
+-- THE FIRST REFUSAL THAT APPLIES to a command lent n words: 4 "when the session is unopened", 5 "when the area lent now is not N words long", then the command's own
+abbrev pub refusal : Session → ℕ → Bool → Command → ℕ
+refusal s n isActive c = cond (eqb (s .words) 0) 4 (cond (eqb n (s .words)) (ownRefusal s isActive c) 5)

@@ -1,4 +1,4 @@
--- The session after an acceptance, of any session, also of one that no call returned. That it is the history's is the law `session-follows`, of proofs/Following.
+-- The session that an acceptance returns, from any session that went in. That it is the session of the history that follows is the law `session-follows` of proofs/Following.
 use Prim.Native.Nat.{ℕ}
 use lib.IntN.{ℤ}
 use Rattle.history.specs.declared.Position.{Position}
@@ -6,7 +6,7 @@ use Rattle.history.specs.declared.Session.{Session}
 use Rattle.history.specs.declared.Command.{Command}
 use Rattle.history.specs.declared.Command.the-variants.{Value, Mark, Query, Close}
 use Rattle.history.specs.Minima.{next}
-use Rattle.history.specs.Standings.{eventOf, nextStanding}
+use Rattle.history.specs.Standings.{eventOf, transitionOf}
 
 -- "the present position is the number of accepted Values"
 abbrev pub presentAfter : Position → Command → Position
@@ -15,13 +15,14 @@ presentAfter p Mark = p
 presentAfter p (Query i) = p
 presentAfter p (Close i) = p
 
+-- the last value is the last accepted one
 abbrev pub lastAfter : ℤ → Command → ℤ
 lastAfter last (Value v) = v
 lastAfter last Mark = last
 lastAfter last (Query i) = last
 lastAfter last (Close i) = last
 
--- N and K stay; of the active marks so many are counted
+-- N and K stay; how many marks are counted as active is said besides
 abbrev pub sessionAfter : Session → Command → ℕ → Session
 sessionAfter s c counted = record {
   words = s .words;
@@ -29,5 +30,5 @@ sessionAfter s c counted = record {
   present = presentAfter (s .present) c;
   last = lastAfter (s .last) c;
   active = counted;
-  standing = nextStanding (s .standing) (eventOf (s .present) c) .after;
+  standing = transitionOf (eventOf (s .present) c) (s .standing) .after;
 }

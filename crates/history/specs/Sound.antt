@@ -1,5 +1,5 @@
--- What holds of every history that an opening and commands lead to. It is said of the paper alone, and nobody has to believe it: proofs/Soundness shows that
--- `opening` and `step` keep it.
+-- What holds of every history that an opening and commands lead to. It is said of the paper alone, and nobody has to believe it: proofs/Soundness shows that it holds
+-- after an opening and that every step keeps it.
 use mathlib.Core.Path.{_≡_}
 use mathlib.Core.List.{List, [], _∷_}
 use Prim.Native.Nat.{ℕ, _+_, _*_, _-_, _<_, _≤_}

@@ -1,4 +1,4 @@
--- The present position's standing, document 01, "Session and area", with replies 7 to 9: what it has against a command, and what it is after an acceptance.
+-- The present position's standing: what is due of 7 to 9, and what the standing is after an acceptance.
 use mathlib.Core.Bool.{cond}
 use lib.Dec.{eqb}
 use Rattle.history.specs.declared.Position.{Position}
@@ -11,29 +11,28 @@ use Rattle.history.specs.declared.Event.{Event}
 use Rattle.history.specs.declared.Due.the-variants.{Nothing, Refused}
 use Rattle.history.specs.declared.Transition.{Transition}
 
--- what a command is to the standing: "a Close of the present position" is told from another
+-- what a command is to the standing: a Close of the present position is one thing, and a Close of another position is another
 abbrev pub eventOf : Position → Command → Event
 eventOf present (Command.Value v) = Event.Value
 eventOf present Command.Mark = Event.Mark
 eventOf present (Command.Query i) = Event.Other
 eventOf present (Command.Close i) = cond (eqb (i .0) (present .0)) Event.CloseOfPresent Event.Other
 
+-- nothing is due, and after the acceptance the standing is this
 abbrev pub allowing : Standing → Transition
 allowing after = record { due = Nothing; after = after }
 
+-- a refusal is due, and the standing stays
 abbrev pub refusing : Refusal → Standing → Transition
 refusing why standing = record { due = Refused why; after = standing }
 
--- 7 "when the standing is none", 8 "when the standing is marked", 9 "when the standing is closed"; else "marked after an accepted Mark"
-abbrev pub onMark : Standing → Transition
-onMark None = refusing NothingToMark None
-onMark Unmarked = allowing Marked
-onMark Marked = refusing AlreadyMarked Marked
-onMark Closed = refusing AlreadyClosed Closed
-
--- "unmarked after each accepted Value, marked after an accepted Mark, closed after a Close of the present position"; no other command alters it
-abbrev pub nextStanding : Standing → Event → Transition
-nextStanding standing Event.Value = allowing Unmarked
-nextStanding standing Event.Mark = onMark standing
-nextStanding standing Event.CloseOfPresent = allowing Closed
-nextStanding standing Event.Other = allowing standing
+-- "unmarked after each accepted Value, marked after an accepted Mark, closed after a Close of the present position"; no other command alters it. 7: "Mark, when the standing
+-- is none", 8: "Mark, when the standing is marked", 9: "Mark, when the standing is closed"
+abbrev pub transitionOf : Event → Standing → Transition
+transitionOf Event.Value standing = allowing Unmarked
+transitionOf Event.Mark None = refusing NothingToMark None
+transitionOf Event.Mark Unmarked = allowing Marked
+transitionOf Event.Mark Marked = refusing AlreadyMarked Marked
+transitionOf Event.Mark Closed = refusing AlreadyClosed Closed
+transitionOf Event.CloseOfPresent standing = allowing Closed
+transitionOf Event.Other standing = allowing standing

@@ -4,7 +4,7 @@ ghost use mathlib.Core.Path.{_≡_};
 ghost use Rattle.history.specs.declared.Command.the-variants.{Close};
 ghost use Rattle.history.specs.Replies.{numberOf, told};
 ghost use Rattle.history.specs.Standings as Standings;
-ghost use Rattle.history.specs.Standings.{onMark, nextStanding, eventOf};
+ghost use Rattle.history.specs.Standings.{transitionOf, eventOf};
 
 // A place in the stream of accepted Values, from 1; 0 stands before the first.
 pub struct Position(pub u32);
@@ -75,13 +75,13 @@ pub enum Event {
     Other,
 }
 
-// What the standing has against an event.
+// What is due to an event by the standing.
 pub enum Due {
     Nothing,
     Refused(Refusal),
 }
 
-// What is due to an event, and the standing after its acceptance.
+// What is due to an event, and the standing after its acceptance. Where a refusal is due the standing stays.
 pub struct Transition {
     pub due: Due,
     pub after: Standing,
@@ -135,24 +135,18 @@ fn refusing(why: Refusal, standing: Standing) -> Transition
     }
 }
 
-fn on_mark(standing: Standing) -> Transition
-    ensures { λ r. ⌜ r ≡ onMark standing ⌝ }
-{
-    match standing {
-        Standing::None => refusing(Refusal::NothingToMark, standing),
-        Standing::Unmarked => allowing(Standing::Marked),
-        Standing::Marked => refusing(Refusal::AlreadyMarked, standing),
-        Standing::Closed => refusing(Refusal::AlreadyClosed, standing),
-    }
-}
-
-// The standing's part in every command: nowhere else is a standing chosen or tested, but for the opening's, which is none.
-pub fn next_standing(standing: Standing, event: Event) -> Transition
-    ensures { λ r. ⌜ r ≡ nextStanding standing event ⌝ }
+// The standing's part in a Value, a Mark and a Close. Nowhere else is a standing chosen or tested, but for the opening's, which is none.
+pub fn transition_of(event: Event, standing: Standing) -> Transition
+    ensures { λ r. ⌜ r ≡ transitionOf event standing ⌝ }
 {
     match event {
         Event::Value => allowing(Standing::Unmarked),
-        Event::Mark => on_mark(standing),
+        Event::Mark => match standing {
+            Standing::None => refusing(Refusal::NothingToMark, standing),
+            Standing::Unmarked => allowing(Standing::Marked),
+            Standing::Marked => refusing(Refusal::AlreadyMarked, standing),
+            Standing::Closed => refusing(Refusal::AlreadyClosed, standing),
+        },
         Event::CloseOfPresent => allowing(Standing::Closed),
         Event::Other => allowing(standing),
     }

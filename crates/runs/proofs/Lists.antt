@@ -1,31 +1,33 @@
 -- Lists of calls: calls that agree with a bookkeeper are told what the bookkeeper tells their commands; calls made in turn are a run; and one call more, at the end.
-use mathlib.Core.Path.{_≡_, refl, sym, ap, _∙_}
+use mathlib.Core.Path.{_≡_, refl, ap, _∙_}
 use mathlib.Core.List.{List, [], _∷_, _++_}
 use Prim.Native.Nat.{ℕ}
 use lib.ListN.{length}
-use Rattle.runs.specs.Runs.{Bookkeeper, isOwn, Call, Made, Agrees, EachCall}
+use Rattle.runs.specs.Runs.{Bookkeeper, Call, Made, EachCall, AllAgree}
 use Rattle.runs.specs.Lists.{repliesOf, paperOf, commandsOf, toldTo, AllLent, InTurn, lastSession, lastWords}
 use Rattle.runs.proofs.Induction.{own-lent}
 
--- P is known of each call, and says that it agrees
-module _ (B : Bookkeeper) (P : List ℕ → B .Paper → B .Paper → Call B → Type 0) (n : ℕ) (first : List ℕ)
-    (agree : (now : List ℕ) (h later : B .Paper) (c : Call B) → P now h later c → Agrees B n first now h later c) where
+-- what follows from what is known of each call is known of each call
+pub each-call : (B : Bookkeeper) (P Q : List ℕ → B .Paper → B .Paper → Call B → Type 0) → ((now : List ℕ) (h later : B .Paper) (c : Call B) → P now h later c → Q now h later c)
+    → (n : ℕ) (words : List ℕ) (h : B .Paper) (cs : List (Call B)) → EachCall B P n words h cs → EachCall B Q n words h cs
+each-call B P Q f n words h [] a = tt
+each-call B P Q f n words h (c ∷ cs) a = (f _ h _ c (a .0), each-call B P Q f n _ _ cs (a .1))
+
+module _ (B : Bookkeeper) (n m : ℕ) (first : List ℕ) where
   -- what calls of m words each are told is what the bookkeeper tells their commands
-  pub told-all : (m : ℕ) (words : List ℕ) (h : B .Paper) (cs : List (Call B)) → EachCall B P n words h cs → AllLent B m cs
-      → toldTo B cs ≡ repliesOf B h m (commandsOf B cs)
-  told-all m words h [] a l = refl
-  told-all m words h (c ∷ cs) a l =
-      let here = agree _ h _ c (a .0) .tells in
-      let rest : toldTo B cs ≡ repliesOf B (B .step h (length (c .lent)) (c .command)) m (commandsOf B cs) = told-all m _ _ cs (a .1) (l .1) in
-      rw (l .0) at (ap (λ (t : B .Told). t ∷ toldTo B cs) here ∙ ap (λ (ts : List (B .Told)). B .tells h (length (c .lent)) (c .command) ∷ ts) rest)
+  pub told-all : (words : List ℕ) (h : B .Paper) (cs : List (Call B)) → AllAgree B n first words h cs → AllLent B m cs → toldTo B cs ≡ repliesOf B h m (commandsOf B cs)
+  told-all words h [] a l = refl
+  told-all words h (c ∷ cs) a l =
+      let rest : toldTo B cs ≡ repliesOf B (B .step h (length (c .lent)) (c .command)) m (commandsOf B cs) = told-all _ _ cs (a .1) (l .1) in
+      rw (l .0) at (ap (λ (t : B .Told). t ∷ toldTo B cs) (a .0 .tells) ∙ ap (λ (ts : List (B .Told)). B .tells h (length (c .lent)) (c .command) ∷ ts) rest)
 
   -- and the session that the last one returns is that of the paper after them all
-  pub session-last : (m : ℕ) (words : List ℕ) (h : B .Paper) (s : B .Session) (cs : List (Call B)) → s ≡ B .sessionOf h → EachCall B P n words h cs → AllLent B m cs
+  pub session-last : (words : List ℕ) (h : B .Paper) (s : B .Session) (cs : List (Call B)) → s ≡ B .sessionOf h → AllAgree B n first words h cs → AllLent B m cs
       → lastSession B s cs ≡ B .sessionOf (paperOf B h m (commandsOf B cs))
-  session-last m words h s [] e a l = e
-  session-last m words h s (c ∷ cs) e a l =
+  session-last words h s [] e a l = e
+  session-last words h s (c ∷ cs) e a l =
       let rest : lastSession B (c .session) cs ≡ B .sessionOf (paperOf B (B .step h (length (c .lent)) (c .command)) m (commandsOf B cs)) =
-      session-last m _ _ (c .session) cs (agree _ h _ c (a .0) .session) (a .1) (l .1) in
+      session-last _ _ (c .session) cs (a .0 .session) (a .1) (l .1) in
       rw (l .0) at rest
 
 module _ (B : Bookkeeper) (did : B .Session → Call B → Type 0) where

@@ -6,12 +6,12 @@ use lib.ListN.{length}
 use Rattle.runs.specs.Runs.{Bookkeeper, Call}
 
 module _ (B : Bookkeeper) where
-  -- what the bookkeeper tells them
+  -- what the bookkeeper tells the commands
   abbrev pub repliesOf : B .Paper → ℕ → List (B .Command) → List (B .Told)
   repliesOf h n [] = []
   repliesOf h n (c ∷ cs) = B .tells h n c ∷ repliesOf (B .step h n c) n cs
 
-  -- the paper after them all
+  -- the paper after all the commands
   abbrev pub paperOf : B .Paper → ℕ → List (B .Command) → B .Paper
   paperOf h n [] = h
   paperOf h n (c ∷ cs) = paperOf (B .step h n c) n cs
@@ -35,7 +35,7 @@ module _ (B : Bookkeeper) where
   InTurn did s words [] = Unit {0}
   InTurn did s words (c ∷ cs) = (c .lent ≡ words) × did s c × InTurn did (c .session) (c .left) cs
 
-  -- the session and the words after them all
+  -- the session and the words after all the calls
   abbrev pub lastSession : B .Session → List (Call B) → B .Session
   lastSession s [] = s
   lastSession s (c ∷ cs) = lastSession (c .session) cs

@@ -1,5 +1,5 @@
--- A run: a start on lent words, then calls, each with the session that the last one returned. It is said of any machine that is held to a bookkeeper, whatever
--- its commands, its session and its paper are.
+-- A run: a start on lent words, such as an opening, and then calls, each with the session that the last one returned. What a run is, and when it agrees with a bookkeeper's
+-- paper, is said of any machine, whatever its commands, its session and the paper are.
 use mathlib.Core.Path.{_≡_}
 use mathlib.Core.Bool.{Bool, true, false, cond}
 use mathlib.Core.List.{List, [], _∷_}
@@ -7,8 +7,8 @@ use Prim.Native.Nat.{ℕ, _≤_}
 use lib.Dec.{eqb}
 use lib.ListN.{length, getD}
 
--- A bookkeeper, who "is told the opened length, the commands and the lent lengths, and nothing of the pedal's": the paper after a command and what the command is
--- told, both from the paper before it and the length lent for it
+-- A bookkeeper, who is told "the commands and the lent lengths, and nothing of the pedal's": the paper after a command, and what the command is told, are worked out from
+-- the paper before it and the length lent for it
 pub record Bookkeeper : Type 1 where
   pub Command : Type 0
   pub Told : Type 0
@@ -16,16 +16,16 @@ pub record Bookkeeper : Type 1 where
   pub Paper : Type 0
   pub step : Paper → ℕ → Command → Paper
   pub tells : Paper → ℕ → Command → Told
-  -- what stands on the paper of the numbers that a session has
+  -- what a session should be
   pub sessionOf : Paper → Session
-  -- N, the number of words opened: 0 of an unopened session
+  -- N, which is 0 where nothing was opened
   pub words : Paper → ℕ
   -- the index from which on every word is still as it was lent
   pub bound : Paper → ℕ
 
--- "every word from index .. on is still as it was lent"
+-- "every word from index .. on is still as it was lent": the words were `first` when they were lent, and are `now`
 abbrev pub AsLent : ℕ → List ℕ → List ℕ → Type 0
-AsLent bound lent words = (i : ℕ) → bound ≤ i → getD words i 0 ≡ getD lent i 0
+AsLent bound first now = (i : ℕ) → bound ≤ i → getD now i 0 ≡ getD first i 0
 
 -- whether the words lent are the start's, of n words: "When N is not 0, a command lent N words is lent the opening's words"
 abbrev pub isOwn : ℕ → List ℕ → Bool
@@ -40,36 +40,31 @@ pub record Call (B : Bookkeeper) : Type 0 where
   pub session : B .Session
 
 module _ (B : Bookkeeper) where
-  -- the start's words after a call
+  -- the start's words after a call, and the paper after it
   abbrev pub wordsAfter : ℕ → List ℕ → Call B → List ℕ
   wordsAfter n words c = cond (isOwn n (c .lent)) (c .left) words
 
-  -- the paper after a call
   abbrev pub paperAfter : B .Paper → Call B → B .Paper
   paperAfter h c = B .step h (length (c .lent)) (c .command)
 
-  -- The calls were made one after the other, where `did` is known of each. "Each call gets the session the last call returned and words as document 01 lends
-  -- them; nobody else writes the opening's words meanwhile": a call lent N words gets the opening's "as last left"; "any other command may be lent any words"
+  -- The calls were made one after the other, and `did` is known of each. "Each call gets the session the last call returned and words as document 01 lends them; nobody else
+  -- writes the opening's words meanwhile": a call lent N words gets the opening's "as last left"; "any other command may be lent any words"
   abbrev pub Made : (B .Session → Call B → Type 0) → ℕ → B .Session → List ℕ → List (Call B) → Type 0
   Made did n s words [] = Unit {0}
-  Made did n s words (c ∷ cs) =
-      (isOwn n (c .lent) ≡ true → c .lent ≡ words)
-      × did s c
-      × Made did n (c .session) (wordsAfter n words c) cs
+  Made did n s words (c ∷ cs) = (isOwn n (c .lent) ≡ true → c .lent ≡ words) × did s c × Made did n (c .session) (wordsAfter n words c) cs
 
-  -- One call agrees with the bookkeeper, whose paper is h before it and `later` after it. The start was on the words `first`, and `now` is what those words are
-  -- after the call
+  -- One call agrees with the bookkeeper, whose paper is h before it and `later` after it. The start was on the words `first`, which are `now` after the call
   pub record Agrees (n : ℕ) (first now : List ℕ) (h later : B .Paper) (c : Call B) : Type 0 where
     -- "the pedal's reply is the bookkeeper's, value and place included, and the session's numbers and standing are those on the paper"
     pub tells : c .told ≡ B .tells h (length (c .lent)) (c .command)
     pub session : c .session ≡ B .sessionOf later
-    -- "still as it was lent", just before the start
+    -- "A word is as lent when it equals what it held just before the opening."
     pub rest : AsLent (B .bound later) first now
-    -- "Any other command may be lent any words, and alters none of them."
     pub long : length (c .left) ≡ length (c .lent)
+    -- "Any other command may be lent any words, and alters none of them."
     pub elsewhere : isOwn n (c .lent) ≡ false → c .left ≡ c .lent
 
-  -- "after every command in the list": P of the start's words after the call, the paper before it, the paper after it, and the call
+  -- "after every command in the list": P of the start's words after each call, the paper before it, the paper after it, and the call
   abbrev pub EachCall : (List ℕ → B .Paper → B .Paper → Call B → Type 0) → ℕ → List ℕ → B .Paper → List (Call B) → Type 0
   EachCall P n words h [] = Unit {0}
   EachCall P n words h (c ∷ cs) = P (wordsAfter n words c) h (paperAfter h c) c × EachCall P n (wordsAfter n words c) (paperAfter h c) cs

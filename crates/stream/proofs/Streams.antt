@@ -15,15 +15,15 @@ use Rattle.history.specs.declared.Session.{Session}
 use Rattle.history.specs.Replies.{Told}
 use Rattle.history.specs.Histories.{History, Stepped, sessionOf, opening, bookkeeper}
 use Rattle.history.proofs.Steps.{opening-accepted}
-use Rattle.runs.specs.Runs.{Call, Made, EachCall}
+use Rattle.runs.specs.Runs.{Call, Made, EachCall, AllAgree}
 use Rattle.runs.specs.Lists.{repliesOf, paperOf, commandsOf, toldTo, AllLent, InTurn, lastSession, lastWords}
-use Rattle.runs.proofs.Lists.{told-all, session-last, in-turn-made, in-turn-more, commands-more, told-more, session-more, words-more}
+use Rattle.runs.proofs.Lists.{each-call, told-all, session-last, in-turn-made, in-turn-more, commands-more, told-more, session-more, words-more}
 use Rattle.reading.specs.declared.Reading.{Reading}
 use Rattle.reading.specs.declared.Reading.the-variants.{Next}
 use Rattle.reading.specs.Outcomes.{Outcome, next, readAs, readingOf}
 use Rattle.reading.proofs.Lengths.{next-within}
-use Rattle.engine.specs.Demand.{OpeningAgrees, Meets}
-use Rattle.engine.specs.Contracts.{Opens, Done}
+use Rattle.engine.specs.Demand.{Answered, OpeningAgrees, Meets}
+use Rattle.engine.specs.Contracts.{Opens, Does}
 use Rattle.engine.proofs.Theorem.{by-contract}
 use Rattle.stream.specs.declared.Progress.{Progress}
 use Rattle.stream.specs.Streams.{Commands, none-yet, one-more, acceptances, Plays}
@@ -53,7 +53,7 @@ pub record Reached (bytes before : List ℕ) (s : Session) (words : List ℕ) (p
   pub small : progress .read ≤ at
   pub long : length words ≡ length before
   pub calls : List (Call bookkeeper)
-  pub made : InTurn bookkeeper Done s before calls
+  pub made : InTurn bookkeeper (Answered Does) s before calls
   pub commands : Commands bytes at (commandsOf bookkeeper calls)
   pub session : progress .session ≡ lastSession bookkeeper s calls
   pub now : words ≡ lastWords bookkeeper before calls
@@ -97,7 +97,7 @@ reached-more {bytes} {before} {words} {after} {s} {progress} {r} {at} {g} {comma
       small = omega (arith, m .0, u .small, o .read);
       long = o .done .1 .long ∙ u .long;
       calls = u .calls ++ (c ∷ []);
-      made = in-turn-more bookkeeper Done s before (u .calls) c (u .made) (u .now) (rw (u .session) at (o .done));
+      made = in-turn-more bookkeeper (Answered Does) s before (u .calls) c (u .made) (u .now) (rw (u .session) at (o .done));
       commands = rw (commands-more bookkeeper (u .calls) c) (one-more command used (u .commands) found);
       session = sym (session-more bookkeeper s (u .calls) c);
       now = sym (words-more bookkeeper before (u .calls) c);
@@ -133,19 +133,20 @@ module _ {first left bytes : List ℕ} {o : Answer} {progress : Progress} (m : 5
   words : h .words ≡ length first
   words = ap (λ (x : Stepped). x .history .words) (opening-accepted (length first) m)
 
-  made : Made bookkeeper Done (h .words) (o .session) left (f .calls) × AllLent bookkeeper (h .words) (f .calls)
-  made = in-turn-made bookkeeper Done (λ s c d. d .1 .long) (h .words) (λ z. omega (arith, words)) (o .session) left (f .calls) (p .long ∙ sym words) (f .made)
+  made : Made bookkeeper (Answered Does) (h .words) (o .session) left (f .calls) × AllLent bookkeeper (h .words) (f .calls)
+  made = in-turn-made bookkeeper (Answered Does) (λ s c d. d .1 .long) (h .words) (λ z. omega (arith, words)) (o .session) left (f .calls) (p .long ∙ sym words) (f .made)
 
-  agrees : OpeningAgrees first left o × EachCall bookkeeper (Meets (h .words) first) (h .words) left h (f .calls)
-  agrees = by-contract first left o (f .calls) p (made .0)
+  demand : OpeningAgrees first left o × EachCall bookkeeper (Meets (h .words) first) (h .words) left h (f .calls)
+  demand = by-contract first left o (f .calls) p (made .0)
+
+  agrees : AllAgree bookkeeper (h .words) first left h (f .calls)
+  agrees = each-call bookkeeper (Meets (h .words) first) _ (λ now h later c x. x .agrees) (h .words) left h (f .calls) (demand .1)
 
   told : toldTo bookkeeper (f .calls) ≡ repliesOf bookkeeper h (h .words) (commandsOf bookkeeper (f .calls))
-  told = told-all bookkeeper (Meets (h .words) first) (h .words) first (λ now h later c x. x .agrees) (h .words) left h (f .calls) (agrees .1) (made .1)
+  told = told-all bookkeeper (h .words) (h .words) first left h (f .calls) agrees (made .1)
 
   last : lastSession bookkeeper (o .session) (f .calls) ≡ sessionOf (paperOf bookkeeper h (h .words) (commandsOf bookkeeper (f .calls)))
-  last =
-      session-last bookkeeper (Meets (h .words) first) (h .words) first (λ now h later c x. x .agrees) (h .words) left h (o .session) (f .calls)
-      (agrees .0 .session) (agrees .1) (made .1)
+  last = session-last bookkeeper (h .words) (h .words) first left h (o .session) (f .calls) (demand .0 .session) agrees (made .1)
 
   plays : Plays (length first) bytes progress
   plays = record {

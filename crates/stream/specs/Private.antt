@@ -12,14 +12,15 @@ use Rattle.history.specs.Histories.{bookkeeper}
 use Rattle.runs.specs.Runs.{Call}
 use Rattle.runs.specs.Lists.{commandsOf, toldTo, InTurn, lastSession}
 use Rattle.reading.specs.Outcomes.{readingOf}
-use Rattle.engine.specs.Contracts.{Done}
+use Rattle.engine.specs.Demand.{Answered}
+use Rattle.engine.specs.Contracts.{Does}
 use Rattle.stream.specs.declared.Progress.{Progress}
 use Rattle.stream.specs.Streams.{Commands, acceptances}
 
 -- `perform`: one call of the engine for a command, lent the words `before` and leaving them as `after`; it is counted as read, and as accepted where it was
 pub record Performs (progress : Progress) (command : Command) (before after : List ℕ) (r : Progress) : Type 0 where
   pub told : Told
-  pub done : Done (progress .session) (record { command = command; lent = before; left = after; told = told; session = r .session })
+  pub done : Answered Does (progress .session) (record { command = command; lent = before; left = after; told = told; session = r .session })
   pub read : r .read ≡ progress .read + 1
   pub accepted : r .accepted ≡ progress .accepted + acceptances (told ∷ [])
   pub few : r .accepted ≤ r .read
@@ -28,7 +29,7 @@ pub record Performs (progress : Progress) (command : Command) (before after : Li
 pub record Follows (s : Session) (before bytes : List ℕ) (r : Progress) : Type 0 where
   pub at : ℕ
   pub calls : List (Call bookkeeper)
-  pub made : InTurn bookkeeper Done s before calls
+  pub made : InTurn bookkeeper (Answered Does) s before calls
   pub commands : Commands bytes at (commandsOf bookkeeper calls)
   pub stops : readingOf (drop at bytes) .command ≡ none
   pub session : r .session ≡ lastSession bookkeeper s calls

@@ -6,7 +6,7 @@ use borrow.Author.Needs.{needs}
 use mir.Facts.{toZ-ofZ}
 use Rattle.history.specs.declared.Event.{Event}
 use Rattle.history.specs.declared.Transition.{Transition}
-use Rattle.history.specs.Standings.{nextStanding}
+use Rattle.history.specs.Standings.{transitionOf}
 use Rattle.engine.proofs.Doing.{does-unopened, does-other, does-with}
 use Rattle.engine.proofs.Asked.{a-close, asked-nothing, close-lost, close-done}
 use Rattle.engine.proofs.close.Statement.{statement}
@@ -59,8 +59,8 @@ returns-4 c =
 close-event-requires : tie.Need-close-event-requires
 close-event-requires c κs = search needs
 
-next-standing-requires : tie.Need-next-standing-requires
-next-standing-requires c κs = search needs
+transition-of-requires : tie.Need-transition-of-requires
+transition-of-requires c κs = search needs
 
 release-requires : tie.Need-release-requires
 release-requires c κs = search needs
@@ -82,7 +82,7 @@ returns-5 c =
     let i = f .before .before .before .before in
     let k = i .before .before .before in
     does-with (c .accept .ensures) (toZ-ofZ (record { sfits = c .before .struct-told .given .1 .1 .1 .0 .1 })) (omega arith)
-    (ap (λ (x : Transition). x .after) (t .next-standing .ensures ∙ ap (λ (x : Event). nextStanding (k .args .s .standing) x) (t .before .close-event .ensures)))
+    (ap (λ (x : Transition). x .after) (t .transition-of .ensures ∙ ap (λ (x : Event). transitionOf x (k .args .s .standing)) (t .before .close-event .ensures)))
     (close-done _ _ _ (omega (arith, i .before .if1 .left)) (omega (arith, i .if2 .left)) _ _ (f .before .before .seek .ensures) (f .found .given .1) _ (l .release .ensures) (omega arith))
 
 pub close-spec : {M : Type 1} → statement M
@@ -103,7 +103,7 @@ close-spec =
     same-length-2
     returns-4
     close-event-requires
-    next-standing-requires
+    transition-of-requires
     release-requires
     sub-accept
     accept-requires

@@ -21,14 +21,14 @@ refuse-requires-2 c κs = search needs
 returns-2 : tie.Need-returns-2
 returns-2 c = rw (c .refuse2 .ensures) (does-other _ _ _ (omega arith) (omega arith))
 
-next-standing-requires : tie.Need-next-standing-requires
-next-standing-requires c κs = search needs
+transition-of-requires : tie.Need-transition-of-requires
+transition-of-requires c κs = search needs
 
 enum-told : tie.Need-enum-told
 enum-told c = search needs
 
 mark-allowed-requires : tie.Need-mark-allowed-requires
-mark-allowed-requires c κs = (omega arith, omega arith, allowed (c .before .before .before .next-standing .ensures) (c .before .enum-told .given .1))
+mark-allowed-requires c κs = (omega arith, omega arith, allowed (c .before .before .before .transition-of .ensures) (c .before .enum-told .given .1))
 
 enum-known-due : tie.Need-enum-known-due
 enum-known-due c = search needs
@@ -44,7 +44,7 @@ returns-3 c = search needs
 
 returns-4 : tie.Need-returns-4
 returns-4 c =
-    let t = c .before .before .before .before .next-standing in
+    let t = c .before .before .before .before .transition-of in
     rw (c .refuse3 .ensures) (mark-refused _ _ (omega arith) (omega arith) _ (sym (ap (λ (x : Transition). x .due) (t .ensures)) ∙ c .before .before .due .given .1))
 
 pub mark-spec : {M : Type 1} → statement M
@@ -55,7 +55,7 @@ mark-spec =
     returns
     refuse-requires-2
     returns-2
-    next-standing-requires
+    transition-of-requires
     enum-told
     mark-allowed-requires
     enum-known-due

@@ -1,10 +1,9 @@
 -- `engine::value` meets its contract. The tests on the way are those of the refusals in checking order; behind them the stack has lowered every minimum by the value at the next
 -- position, which is the law `value-done`. The answer's parts are the next position, the value, the count as it was and the standing after a Value.
-use mathlib.Core.Path.{refl, ap, _∙_}
+use mathlib.Core.Path.{refl, ap}
 use native.Mathlib.Omega.{arith}
 use borrow.Author.Needs.{needs}
 use mir.Facts.{toZ-ofZ}
-use Rattle.history.specs.declared.Standing.{Standing}
 use Rattle.history.specs.declared.Transition.{Transition}
 use Rattle.engine.proofs.Doing.{does-unopened, does-other, does-with}
 use Rattle.engine.proofs.Valued.{value-last, value-done}
@@ -35,8 +34,8 @@ add-t15 c = search needs
 lower-requires : tie.Need-lower-requires
 lower-requires c κs = search needs
 
-next-standing-requires : tie.Need-next-standing-requires
-next-standing-requires c κs = search needs
+transition-of-requires : tie.Need-transition-of-requires
+transition-of-requires c κs = search needs
 
 accept-requires : tie.Need-accept-requires
 accept-requires c κs = search needs
@@ -48,7 +47,7 @@ returns-4 : tie.Need-returns-4
 returns-4 c =
     let l = c .before .before .before .before in
     let v = toZ-ofZ (l .before .before .before .before .before .before .before .before .before .fits .v) in
-    does-with (c .accept .ensures) v refl (ap (λ (x : Transition). x .after) (c .before .next-standing .ensures))
+    does-with (c .accept .ensures) v refl (ap (λ (x : Transition). x .after) (c .before .transition-of .ensures))
     (value-done _ _ _ (omega arith) (omega arith) _ (omega arith) (rw v at (l .lower .ensures)))
 
 pub value-spec : {M : Type 1} → statement M
@@ -63,7 +62,7 @@ value-spec =
     returns-3
     add-t15
     lower-requires
-    next-standing-requires
+    transition-of-requires
     accept-requires
     same-length
     returns-4)
