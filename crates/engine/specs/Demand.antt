@@ -8,10 +8,9 @@ use Prim.Native.Nat.{ℕ}
 use lib.ListN.{length}
 use Rattle.history.specs.declared.Position.{Position}
 use Rattle.history.specs.declared.Minimum.{Minimum}
-use Rattle.history.specs.declared.Standing.the-variants.{Unmarked}
+use Rattle.history.specs.declared.Standing.{Standing}
 use Rattle.history.specs.declared.Session.{Session}
 use Rattle.history.specs.declared.Command.{Command}
-use Rattle.history.specs.declared.Command.the-variants.{Mark, Query}
 use Rattle.history.specs.declared.Answer.{Answer}
 use Rattle.history.specs.Minima.{Least}
 use Rattle.history.specs.Replies.{showing, told}
@@ -41,13 +40,13 @@ pub record Meets (n : ℕ) (first now : List ℕ) (h later : History) (c : Call 
   -- the reply, the session and the words are as the bookkeeper has them
   pub agrees : Agrees bookkeeper n first now h later c
   -- "A tap no earlier rule refuses is refused as full exactly when the opened number is active."
-  pub full : c .command ≡ Mark → (h .words ≡ 0 → ⊥) → length (c .lent) ≡ h .words → h .standing ≡ Unmarked
+  pub full : c .command ≡ Command.Mark → (h .words ≡ 0 → ⊥) → length (c .lent) ≡ h .words → h .standing ≡ Standing.Unmarked
       → (c .told .number ≡ 10 → length (h .active) ≡ h .limit) × (length (h .active) ≡ h .limit → c .told .number ≡ 10)
   -- DEMAND 2: "a query on an active tap gets the least value from the tap's position to the present and the place of that value"
-  pub gets : (i : Position) → c .command ≡ Query i → isOwn n (c .lent) ≡ true → among i (h .active) ≡ true
+  pub gets : (i : Position) → c .command ≡ Command.Query i → isOwn n (c .lent) ≡ true → among i (h .active) ≡ true
       → (m : Minimum) × (c .told ≡ showing m) × Least (h .values) i m
   -- and a query on another position is shown nothing
-  pub shown : (i : Position) (m : Minimum) → c .command ≡ Query i → c .told .shown ≡ some m → (among i (h .active) ≡ true) × Least (h .values) i m
+  pub shown : (i : Position) (m : Minimum) → c .command ≡ Command.Query i → c .told .shown ≡ some m → (among i (h .active) ≡ true) × Least (h .values) i m
 
 -- THE CLAIM, of functions of which this is known
 abbrev pub Demand3 : OpeningSays → CommandSays → Type 0

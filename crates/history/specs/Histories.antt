@@ -8,10 +8,8 @@ use lib.ListN.{length}
 use Rattle.runs.specs.Runs.{Bookkeeper}
 use Rattle.history.specs.declared.Position.{Position}
 use Rattle.history.specs.declared.Standing.{Standing}
-use Rattle.history.specs.declared.Standing.the-variants.{None}
 use Rattle.history.specs.declared.Session.{Session}
 use Rattle.history.specs.declared.Command.{Command}
-use Rattle.history.specs.declared.Command.the-variants.{Value, Mark, Query, Close}
 use Rattle.history.specs.Minima.{presentAt, lastOf, minimum}
 use Rattle.history.specs.Standings.{eventOf, transitionOf}
 use Rattle.history.specs.Replies.{Told, numbered, accepted, showing, refusal}
@@ -52,7 +50,7 @@ limitOf n = min ((n - 512) / 64) 4096
 
 -- "Opening: no values, no taps, standing none, l = 0."
 abbrev pub blank : ℕ → ℕ → History
-blank n k = record { words = n; limit = k; values = []; active = []; standing = None; peak = 0 }
+blank n k = record { words = n; limit = k; values = []; active = []; standing = Standing.None; peak = 0 }
 
 -- "Below 576: reply 1, and N and K are 0. Otherwise: reply 0, N is the length told, and K follows from it as above."
 abbrev pub opening : ℕ → Stepped
@@ -70,10 +68,10 @@ without i (a ∷ rest) = cond (eqb (i .0) (a .0)) (without i rest) (a ∷ withou
 
 -- whether the command's position is an active mark
 abbrev pub isActive : History → Command → Bool
-isActive h (Value v) = false
-isActive h Mark = false
-isActive h (Query i) = among i (h .active)
-isActive h (Close i) = among i (h .active)
+isActive h (Command.Value v) = false
+isActive h Command.Mark = false
+isActive h (Command.Query i) = among i (h .active)
+isActive h (Command.Close i) = among i (h .active)
 
 -- the history after the command c, with these values, active marks and l. N and K stay, and the standing follows from the command
 abbrev pub becomes : History → Command → List ℤ → List Position → ℕ → History
@@ -89,13 +87,13 @@ becomes h c values active peak = record {
 -- "Any other gets reply 0, as follows."
 abbrev pub accept : History → Command → Stepped
 -- "Value: it is written after the others; standing unmarked."
-accept h (Value v) = record { history = becomes h (Value v) (h .values ++ (v ∷ [])) (h .active) (h .peak); tells = accepted }
+accept h (Command.Value v) = record { history = becomes h (Command.Value v) (h .values ++ (v ∷ [])) (h .active) (h .peak); tells = accepted }
 -- "Mark: the present position joins the taps; standing marked. l rises to the number of taps where that is more."
-accept h Mark = let joined : List Position = h .active ++ (presentOf h ∷ []) in record { history = becomes h Mark (h .values) joined (max (h .peak) (length joined)); tells = accepted }
+accept h Command.Mark = let joined : List Position = h .active ++ (presentOf h ∷ []) in record { history = becomes h Command.Mark (h .values) joined (max (h .peak) (length joined)); tells = accepted }
 -- "Query: the reply shows the dip, taken over the written values; the paper stays."
-accept h (Query i) = record { history = h; tells = showing (minimum (h .values) i) }
+accept h (Command.Query i) = record { history = h; tells = showing (minimum (h .values) i) }
 -- "Close: its position is struck from the taps. If it is the present position, standing is closed."
-accept h (Close i) = record { history = becomes h (Close i) (h .values) (without i (h .active)) (h .peak); tells = accepted }
+accept h (Command.Close i) = record { history = becomes h (Command.Close i) (h .values) (without i (h .active)) (h .peak); tells = accepted }
 
 -- the refusal that applies to a command lent n words; 0: none
 abbrev pub refusalOf : History → ℕ → Command → ℕ

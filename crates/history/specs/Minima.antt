@@ -9,8 +9,8 @@ use lib.ListN.{length, getD, drop}
 use Rattle.history.specs.declared.Position.{Position}
 use Rattle.history.specs.declared.Minimum.{Minimum}
 
--- "Where the least value stands at several of those positions, the place is the latest": a later value takes over from the least
--- before it where it is no larger. This is where the choice among equal values is made; `Least.latest` states it once more, independently.
+-- "Where the least value stands at several of those positions, the place is the latest": a later value takes over from the least before it where it is no larger.
+-- This is where the choice among equal values is made; `Least.latest` states it once more, independently
 abbrev pub takesOver : ℤ → ℤ → Bool
 takesOver later least = leZ later least
 

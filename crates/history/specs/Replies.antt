@@ -3,13 +3,10 @@ use mathlib.Core.Bool.{Bool, cond}
 use mathlib.Core.Option.{Option, none, some}
 use Prim.Native.Nat.{ℕ}
 use lib.Dec.{eqb}
-use Rattle.history.specs.declared.Position.{Position}
 use Rattle.history.specs.declared.Minimum.{Minimum}
 use Rattle.history.specs.declared.Session.{Session}
 use Rattle.history.specs.declared.Command.{Command}
-use Rattle.history.specs.declared.Command.the-variants.{Value, Mark, Query, Close}
 use Rattle.history.specs.declared.Refusal.{Refusal}
-use Rattle.history.specs.declared.Refusal.the-variants.{AreaTooShort, UnknownKind, ArgumentCutOff, Unopened, OtherLength, LastPosition, NothingToMark, AlreadyMarked, AlreadyClosed, Full, NotActive}
 use Rattle.history.specs.declared.Reply.{Reply}
 use Rattle.history.specs.declared.Event.{Event}
 use Rattle.history.specs.declared.Due.{Due}
@@ -33,38 +30,34 @@ abbrev pub showing : Minimum → Told
 showing m = record { number = 0; shown = some m }
 
 abbrev pub numberOf : Refusal → ℕ
-numberOf AreaTooShort = 1
-numberOf UnknownKind = 2
-numberOf ArgumentCutOff = 3
-numberOf Unopened = 4
-numberOf OtherLength = 5
-numberOf LastPosition = 6
-numberOf NothingToMark = 7
-numberOf AlreadyMarked = 8
-numberOf AlreadyClosed = 9
-numberOf Full = 10
-numberOf NotActive = 11
+numberOf Refusal.AreaTooShort = 1
+numberOf Refusal.UnknownKind = 2
+numberOf Refusal.ArgumentCutOff = 3
+numberOf Refusal.Unopened = 4
+numberOf Refusal.OtherLength = 5
+numberOf Refusal.LastPosition = 6
+numberOf Refusal.NothingToMark = 7
+numberOf Refusal.AlreadyMarked = 8
+numberOf Refusal.AlreadyClosed = 9
+numberOf Refusal.Full = 10
+numberOf Refusal.NotActive = 11
 
 abbrev pub told : Reply → Told
 told Reply.Accepted = accepted
 told (Reply.Lowest m) = showing m
 told (Reply.Refused why) = numbered (numberOf why)
 
--- "The highest is 4,294,967,295."
-abbrev pub highest : Position
-highest = record { 0 = 4294967295 }
-
 -- 7 to 10, of a Mark: what is due by the standing, and then "when exactly K taps are active"
 abbrev pub markRefusal : Session → Due → ℕ
 markRefusal s (Due.Refused why) = numberOf why
 markRefusal s Due.Nothing = cond (eqb (s .active) (s .limit)) 10 0
 
--- 6 to 11, on an area of the opened length; 0: none applies. `isActive`: whether the command's position is an active mark
+-- 6 to 11, on an area of the opened length; 0: none applies. "The highest [position] is 4,294,967,295." `isActive`: whether the command's position is an active mark
 abbrev pub ownRefusal : Session → Bool → Command → ℕ
-ownRefusal s isActive (Value v) = cond (eqb (s .present .0) (highest .0)) 6 0
-ownRefusal s isActive Mark = markRefusal s (transitionOf Event.Mark (s .standing) .due)
-ownRefusal s isActive (Query i) = cond isActive 0 11
-ownRefusal s isActive (Close i) = cond isActive 0 11
+ownRefusal s isActive (Command.Value v) = cond (eqb (s .present .0) 4294967295) 6 0
+ownRefusal s isActive Command.Mark = markRefusal s (transitionOf Event.Mark (s .standing) .due)
+ownRefusal s isActive (Command.Query i) = cond isActive 0 11
+ownRefusal s isActive (Command.Close i) = cond isActive 0 11
 
 -- THE FIRST REFUSAL THAT APPLIES to a command lent n words: 4 "when the session is unopened", 5 "when the area lent now is not N words long", then the command's own
 abbrev pub refusal : Session → ℕ → Bool → Command → ℕ
