@@ -19,7 +19,7 @@ use Rattle.history.specs.Sound.{Sound}
 use Rattle.history.proofs.Steps.{opening-refused, opening-short, opening-words}
 use Rattle.history.proofs.Soundness.{opening-sound}
 use Rattle.history.proofs.Following.{full-when, told-minimum, active-least, shown-minimum}
-use Rattle.runs.specs.Runs.{Call, paperAfter, Agrees, EachCall}
+use Rattle.runs.specs.Runs.{AsLent, Call, paperAfter, Made, Agrees, EachCall}
 use Rattle.runs.proofs.Induction.{own-length, run}
 use Rattle.engine.specs.Demand.{OpeningSays, CommandSays, Answered, Meets, Demand3}
 use Rattle.engine.specs.Promises.{AfterRefusal, AfterAcceptance, shows, Settled, Demand1}
@@ -67,15 +67,19 @@ fours first words (c ∷ cs) a = (a .0 .agrees .tells, a .0 .agrees .elsewhere r
 -- what is known of the functions gives what the contracts say
 module _ (opened : OpeningSays) (says : CommandSays) (opens : (first left : List ℕ) (o : Answer) → opened first left o → Opens first left o)
     (does : (s : Session) (c : Command) (lent left : List ℕ) (r : Answer) → says s c lent left r → Does s c lent left r) where
+  -- from any start on the words `first` that returned the session of a sound history and left words that keep it
+  pub from-start : (first left : List ℕ) (h : History) (s : Session) (cs : List (Call bookkeeper)) → s ≡ sessionOf h → Sound h → AsLent (bookkeeper .bound h) first left
+      → ((h .words ≡ 0 → ⊥) → Keeps h first left) → Made bookkeeper (Answered says) (h .words) s left cs
+      → EachCall bookkeeper (Meets (h .words) first) (h .words) left h cs
+  from-start first left h s cs e y r k m =
+      run bookkeeper Sound Keeps (Answered says) (one-call says does) (Meets (h .words) first) (h .words) first (meets (h .words) first) left h s cs e y refl r k m
+
   pub demand-3 : Demand3 opened says
   demand-3 first left o cs q m =
-      let p = opens first left o q in
-      let h = opening (length first) .history in
-      let n = h .words in (
+      let p = opens first left o q in (
         record { tells = p .tells; session = p .represents .session; rest = p .rest; long = p .long },
-        run bookkeeper Sound Keeps (Answered says) (one-call says does) (Meets n first) n first (meets n first) left h (o .session) cs
-            (p .represents .session) (opening-sound (length first)) refl (λ i l. p .rest i (omega arith))
-            (λ z. p .represents .own z (p .long ∙ sym (opening-words (length first) z))) m,
+        from-start first left (opening (length first) .history) (o .session) cs (p .represents .session) (opening-sound (length first))
+            (λ i l. p .rest i (omega arith)) (λ z. p .represents .own z (p .long ∙ sym (opening-words (length first) z))) m,
       )
 
   pub demand-1 : Demand1 opened says

@@ -38,6 +38,7 @@ fn limit_of(n: usize) -> usize
     layout::MOST_MARKS
 }
 
+// A refusal: the session comes back equal.
 fn refuse(s: Session, why: Refusal) -> Answer
     ensures { λ r. ⌜ r ≡ refusedWith s why ⌝ }
 {
@@ -47,6 +48,7 @@ fn refuse(s: Session, why: Refusal) -> Answer
     }
 }
 
+// An acceptance that shows nothing: N and K stay.
 fn accept(s: Session, present: Position, last: i32, active: usize, standing: Standing) -> Answer
     ensures { λ r. ⌜ r ≡ acceptedWith s present last active standing ⌝ }
 {

@@ -1,4 +1,4 @@
-// The words that the engine and its callers share: positions, commands, the session and the replies.
+// The words that the engine and its callers share: positions, commands, the session and the replies; and the present position's standing.
 // What they mean is said in specs/, from document 01 alone; nothing here knows how the engine keeps its marks.
 ghost use mathlib.Core.Path.{_≡_};
 ghost use Rattle.history.specs.declared.Command.the-variants.{Close};

@@ -1,4 +1,4 @@
--- `engine::apply` meets its contract: each command's own is the promise.
+-- `engine::apply` meets its contract. Each arm knows which command it has, and calls the function whose contract is the same of that command.
 use borrow.Author.Needs.{needs}
 use mir.Facts.{toZ-ofZ}
 use Rattle.engine.proofs.apply.Statement.{statement}

@@ -1,4 +1,5 @@
--- `engine::open` meets its contract: an area too short is left as it is, and in another the table is emptied.
+-- `engine::open` meets its contract. An area too short is left as it is, which is the law `open-refused`; in another the table is emptied, which is the law `open-done`, and K is
+-- what `limit_of` makes of the length.
 use native.Mathlib.Omega.{arith}
 use Rattle.engine.proofs.Openings.{open-refused, open-done}
 use borrow.Author.Needs.{needs}

@@ -1,4 +1,5 @@
--- `engine::query` meets its contract: one law for each way out.
+-- `engine::query` meets its contract. The tests on the way are those of the refusals in checking order. A mark that is found has its row's minimum from the stack, which is the
+-- law `query-done`; a stack that has none for it is no history's. Nothing is written.
 use native.Mathlib.Omega.{arith}
 use Rattle.engine.proofs.Doing.{does-unopened, does-other}
 use Rattle.engine.proofs.Asked.{a-query, asked-nothing, query-lost, query-done}

@@ -1,4 +1,4 @@
--- `engine::seek` meets its contract: a position that no mark can have is not looked for.
+-- `engine::seek` meets its contract. At 0 and after the present position nothing is looked for, and nothing is claimed; between them what is found or not is what the table finds.
 use native.Mathlib.Omega.{arith}
 use Rattle.engine.proofs.Asked.{seeks-none, seeks-found}
 use borrow.Author.Needs.{needs}

@@ -49,25 +49,25 @@ allowing-requires-4 : tie.Need-allowing-requires-4
 allowing-requires-4 c κs = search needs
 
 returns : tie.Need-returns
-returns c = cc
+returns c = rw (c .before .enum-told .given .1) (c .allowing .ensures)
 
 returns-2 : tie.Need-returns-2
-returns-2 c = cc
+returns-2 c = rw (c .before .before .before .enum-told2 .given .1, c .before .enum-told3 .given .1) (rw (c .before .enum-told3 .given .1) at (c .refusing .ensures))
 
 returns-3 : tie.Need-returns-3
-returns-3 c = cc
+returns-3 c = rw (c .before .before .before .enum-told2 .given .1, c .before .enum-told4 .given .1) (c .allowing2 .ensures)
 
 returns-4 : tie.Need-returns-4
-returns-4 c = cc
+returns-4 c = rw (c .before .before .before .enum-told2 .given .1, c .before .enum-told5 .given .1) (rw (c .before .enum-told5 .given .1) at (c .refusing2 .ensures))
 
 returns-5 : tie.Need-returns-5
-returns-5 c = cc
+returns-5 c = rw (c .before .before .before .enum-told2 .given .1, c .before .enum-told6 .given .1) (rw (c .before .enum-told6 .given .1) at (c .refusing3 .ensures))
 
 returns-6 : tie.Need-returns-6
-returns-6 c = cc
+returns-6 c = rw (c .before .enum-told7 .given .1) (c .allowing3 .ensures)
 
 returns-7 : tie.Need-returns-7
-returns-7 c = cc
+returns-7 c = rw (c .before .enum-told8 .given .1) (c .allowing4 .ensures)
 
 pub transition-of-spec : {M : Type 1} → statement M
 transition-of-spec =
