@@ -48,7 +48,7 @@ pub record Meets (n : ℕ) (first now : List ℕ) (h later : History) (c : Call 
   -- and a query on another position is shown nothing
   pub shown : (i : Position) (m : Minimum) → c .command ≡ Command.Query i → c .told .shown ≡ some m → (among i (h .active) ≡ true) × Least (h .values) i m
 
--- THE CLAIM, of functions of which this is known
+-- THE CLAIM, where `opens` is known of the opening's function, and `says` of the commands' functions
 abbrev pub Demand3 : OpeningSays → CommandSays → Type 0
 Demand3 opens says =
     (first left : List ℕ) (o : Answer) (calls : List (Call bookkeeper))

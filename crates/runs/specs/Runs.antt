@@ -69,5 +69,6 @@ module _ (B : Bookkeeper) where
   EachCall P n words h [] = Unit {0}
   EachCall P n words h (c ∷ cs) = P (wordsAfter n words c) h (paperAfter h c) c × EachCall P n (wordsAfter n words c) (paperAfter h c) cs
 
+  -- each call of a list agrees
   abbrev pub AllAgree : ℕ → List ℕ → List ℕ → B .Paper → List (Call B) → Type 0
   AllAgree n first = EachCall (Agrees n first) n
