@@ -93,12 +93,12 @@ module _ (s : Session) (w : List ℕ) (i : Position) (z : s .words ≡ 0 → ⊥
     pub query-done : (b : Low) (m : Minimum) → Looked w g b → b ≡ low.At m → Does s (Query i) w w (record { reply = Lowest m; session = s })
     query-done b m l f =
         does-accepted (Query i) s w true (λ _. q .possible g e) refl (due-to (Query i) a-query true)
-        (record { counted = s .active; found = m; tells = refl; session = refl; unaltered = (refl, refl) })
+        (record { counted = 0; found = m; tells = refl; session = refl; unaltered = refl })
         (λ h first y t.
         let k = own-of (Query i) s w z o t in
         let x : low.At m ≡ low.At (minimum (h .values) i) = sym f ∙ looked-minimum w (h .values) (h .active) i g b l (k .holds) live in
         let d : m ≡ minimum (h .values) i = cc in
-        (due-none (Query i) a-query h first y t, ap showing d, ap (λ (x : Session). x .active) (t .session), k))
+        (due-none (Query i) a-query h first y t, ap showing d, refl, k))
 
     -- a count of no active marks: no history's session
     pub close-lost : s .active ≡ 0 → Does s (Close i) w w (refusedWith s NotActive)

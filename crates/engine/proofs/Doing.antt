@@ -18,7 +18,7 @@ use Rattle.history.specs.declared.Refusal.the-variants.{Unopened, OtherLength, 
 use Rattle.history.specs.declared.Answer.{Answer}
 use Rattle.history.specs.Replies.{numbered, numberOf, told, refusal}
 use Rattle.history.specs.Histories.{History, sessionOf, isActive, accept, refusalOf, step}
-use Rattle.history.specs.Sessions.{sessionAfter}
+use Rattle.history.specs.Sessions.{countAfter, sessionAfter}
 use Rattle.history.specs.Sound.{Sound}
 use Rattle.history.proofs.Steps.{some-number, refusal-unopened, refusal-other, refused, step-refused, step-accepted}
 use Rattle.history.proofs.Following.{session-follows}
@@ -76,7 +76,7 @@ module _ (c : Command) (s : Session) (w : List ℕ) where
   module _ (b : Bool) (y : b ≡ true → Possible s c) {after : List ℕ} {r : Answer} (l : length after ≡ length w) (e : refusal s (length w) b c ≡ 0)
       (a : AfterAcceptance c s w after (r .session) (told (r .reply)))
       (f : ForEach s w (λ h first. (refusal s (length w) (isActive h c) c ≡ 0) × (told (r .reply) ≡ accept h c .tells)
-      × (a .counted ≡ length (accept h c .history .active)) × Keeps (accept h c .history) first after)) where
+      × (countAfter (length (h .active)) c (a .counted) ≡ length (accept h c .history .active)) × Keeps (accept h c .history) first after)) where
     pub does-accepted : Does s c w after r
     does-accepted = record {
       long = l;
@@ -97,8 +97,7 @@ module _ (c : Command) (s : Session) (w : List ℕ) where
         session h first q t =
             a .session
             ∙ ap (λ (x : Session). sessionAfter x c (a .counted)) (t .session)
-            ∙ ap (λ (n : ℕ). sessionAfter (sessionOf h) c n) (f h first q t .2)
-            ∙ session-follows h c
+            ∙ session-follows h c (a .counted) (f h first q t .2)
 
 -- a Mark on words that are no history's, refused as full
 pub does-full : (s : Session) (w : List ℕ) → refusal s (length w) false Mark ≡ 0 → ForEach s w (λ h first. ⊥) → Does s Mark w w (refusedWith s Full)

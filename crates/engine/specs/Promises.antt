@@ -30,12 +30,12 @@ shows Mark m = accepted
 shows (Query i) m = showing m
 shows (Close i) m = accepted
 
--- what a Query leaves as it is: the words, and the count of active marks
-abbrev pub Unaltered : Command → Session → ℕ → List ℕ → List ℕ → Type 0
-Unaltered (Value v) s counted before after = Unit {0}
-Unaltered Mark s counted before after = Unit {0}
-Unaltered (Query i) s counted before after = (after ≡ before) × (counted ≡ s .active)
-Unaltered (Close i) s counted before after = Unit {0}
+-- a Query only reads
+abbrev pub Unaltered : Command → List ℕ → List ℕ → Type 0
+Unaltered (Value v) before after = Unit {0}
+Unaltered Mark before after = Unit {0}
+Unaltered (Query i) before after = after ≡ before
+Unaltered (Close i) before after = Unit {0}
 
 -- accepted. Free on words that no call left: the minimum shown and, but for a Query, the count of active marks and what then stands in the words
 pub record AfterAcceptance (c : Command) (s : Session) (before after : List ℕ) (t : Session) (a : Told) : Type 0 where
@@ -43,7 +43,7 @@ pub record AfterAcceptance (c : Command) (s : Session) (before after : List ℕ)
   pub found : Minimum
   pub tells : a ≡ shows c found
   pub session : t ≡ sessionAfter s c counted
-  pub unaltered : Unaltered c s counted before after
+  pub unaltered : Unaltered c before after
 
 -- a position that can be an active mark at all: neither 0 nor in the future
 abbrev pub Possible : Session → Command → Type 0

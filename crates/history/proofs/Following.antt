@@ -21,25 +21,26 @@ use Rattle.history.specs.Minima.{minimum, Least}
 use Rattle.history.specs.Replies.{showing, markRefusal}
 use Rattle.history.specs.Standings.{transitionOf}
 use Rattle.history.specs.Histories.{History, Stepped, sessionOf, among, isActive, accept, refusalOf, step}
-use Rattle.history.specs.Sessions.{sessionAfter}
+use Rattle.history.specs.Sessions.{countAfter, sessionAfter}
 use Rattle.history.specs.Sound.{Sound}
 use Rattle.history.proofs.Lowest.{lastOf-more, minimum-least}
 use Rattle.history.proofs.Steps.{refusal-unopened, refusal-other, refusal-own, step-refused, step-accepted}
 use Rattle.history.proofs.Soundness.{rising-among}
 
--- THE SESSION AFTER AN ACCEPTANCE is the session of the history that follows
-pub session-follows : (h : History) (c : Command) → sessionAfter (sessionOf h) c (length (accept h c .history .active)) ≡ sessionOf (accept h c .history)
-session-follows h (Value v) = λ i. record {
+-- THE SESSION AFTER AN ACCEPTANCE is the session of the history that follows, where as many marks are counted as are active then
+pub session-follows : (h : History) (c : Command) (counted : ℕ) → countAfter (length (h .active)) c counted ≡ length (accept h c .history .active)
+    → sessionAfter (sessionOf h) c counted ≡ sessionOf (accept h c .history)
+session-follows h (Value v) counted e = λ i. record {
   words = h .words;
   limit = h .limit;
   present = record { 0 = sym (length-append (h .values) (v ∷ [])) i };
   last = sym (lastOf-more (h .values) v) i;
-  active = length (h .active);
+  active = e i;
   standing = Unmarked;
 }
-session-follows h Mark = refl
-session-follows h (Query i) = refl
-session-follows h (Close i) = refl
+session-follows h Mark counted e = ap (λ (n : ℕ). sessionAfter (sessionOf h) Mark n) e
+session-follows h (Query i) counted e = refl
+session-follows h (Close i) counted e = ap (λ (n : ℕ). sessionAfter (sessionOf h) (Close i) n) e
 
 module _ (h : History) (n : ℕ) (z : h .words ≡ 0 → ⊥) (o : n ≡ h .words) where
   -- "A tap no earlier rule refuses is refused as full exactly when the opened number is active."

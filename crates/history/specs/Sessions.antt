@@ -22,13 +22,20 @@ lastAfter last Mark = last
 lastAfter last (Query i) = last
 lastAfter last (Close i) = last
 
--- N and K stay; how many marks are counted as active is said besides
+-- a Query leaves the count of active marks; after another command so many are counted
+abbrev pub countAfter : ℕ → Command → ℕ → ℕ
+countAfter active (Value v) counted = counted
+countAfter active Mark counted = counted
+countAfter active (Query i) counted = active
+countAfter active (Close i) counted = counted
+
+-- N and K stay
 abbrev pub sessionAfter : Session → Command → ℕ → Session
 sessionAfter s c counted = record {
   words = s .words;
   limit = s .limit;
   present = presentAfter (s .present) c;
   last = lastAfter (s .last) c;
-  active = counted;
+  active = countAfter (s .active) c counted;
   standing = transitionOf (eventOf (s .present) c) (s .standing) .after;
 }
