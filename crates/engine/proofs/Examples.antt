@@ -4,7 +4,7 @@ use mathlib.Core.List.{List, [], _∷_, map}
 use Prim.Native.Nat.{ℕ}
 use Rattle.history.specs.declared.Session.{Session}
 use Rattle.history.specs.declared.Command.{Command}
-use Rattle.history.specs.Histories.{opening, bookkeeper}
+use Rattle.history.specs.Histories.{opening, model}
 use Rattle.history.specs.Examples.{Example, worked, AllWorked, examples}
 use Rattle.history.proofs.Worked.{examples-worked}
 use Rattle.runs.specs.Lists.{repliesOf, commandsOf}
@@ -20,9 +20,9 @@ gives e w first left o calls n q m cs l =
     record {
       opens = d .0 .tells ∙ ap (λ (k : ℕ). opening k .tells) n ∙ ap (λ (x : Example). x .opens) w;
       limit = ap (λ (s : Session). s .limit) (d .0 .session) ∙ ap (λ (k : ℕ). opening k .history .limit) n ∙ ap (λ (x : Example). x .limit) w;
-      tells = told-all bookkeeper _ (e .words) first left _ calls (each-call bookkeeper (Meets _ first) _ (λ now h later c x. x .agrees) _ left _ calls (d .1)) l
-          ∙ ap (λ (k : ℕ). repliesOf bookkeeper (opening k .history) (e .words) (commandsOf bookkeeper calls)) n
-          ∙ ap (λ (x : List Command). repliesOf bookkeeper (opening (e .words) .history) (e .words) x) cs
+      tells = told-all model _ (e .words) first left _ calls (each-call model (Meets _ first) _ (λ now h later c x. x .agrees) _ left _ calls (d .1)) l
+          ∙ ap (λ (k : ℕ). repliesOf model (opening k .history) (e .words) (commandsOf model calls)) n
+          ∙ ap (λ (x : List Command). repliesOf model (opening (e .words) .history) (e .words) x) cs
           ∙ ap (λ (x : Example). x .tells) w;
     }
 

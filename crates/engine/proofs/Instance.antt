@@ -11,7 +11,7 @@ use Rattle.history.specs.declared.Session.{Session}
 use Rattle.history.specs.declared.Command.{Command}
 use Rattle.history.specs.declared.Answer.{Answer}
 use Rattle.history.specs.Replies.{refusal}
-use Rattle.history.specs.Histories.{History, Stepped, sessionOf, isActive, bookkeeper}
+use Rattle.history.specs.Histories.{History, Stepped, sessionOf, isActive, model}
 use Rattle.history.specs.Sound.{Sound}
 use Rattle.laws.proofs.Tests.{clash}
 use Rattle.history.proofs.Steps.{refusal-unopened, refusal-other, step-refused, step-words}
@@ -33,10 +33,10 @@ other-due h lent c o = elim (ℕ-discrete (h .words) 0) [
 -- what is known of a command's function gives what the contract says
 module _ (says : CommandSays) (does : (s : Session) (c : Command) (lent left : List ℕ) (r : Answer) → says s c lent left r → Does s c lent left r) where
   -- the answer of a call, and what the contract says of it
-  answer : (s : Session) (c : Call bookkeeper) → Answered says s c → Answered Does s c
+  answer : (s : Session) (c : Call model) → Answered says s c → Answered Does s c
   answer s c (r, d, t, e) = (r, does s (c .command) (c .lent) (c .left) r d, t, e)
 
-  pub one-call : OneCall bookkeeper Sound Keeps (Answered says)
+  pub one-call : OneCall model Sound Keeps (Answered says)
   one-call = record {
     sound = λ h n k y. step-sound h y n k;
     opened = step-words;

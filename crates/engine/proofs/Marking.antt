@@ -22,7 +22,7 @@ use Rattle.history.specs.declared.Refusal.the-variants.{Full}
 use Rattle.history.specs.Minima.{standsAt}
 use Rattle.history.specs.Standings.{allowing, transitionOf}
 use Rattle.history.specs.Replies.{markRefusal, refusal}
-use Rattle.history.specs.Histories.{History, presentOf, sessionOf, isActive, accept, bookkeeper}
+use Rattle.history.specs.Histories.{History, presentOf, sessionOf, isActive, accept, model}
 use Rattle.history.specs.Sound.{Sound}
 use Rattle.history.proofs.Lowest.{minimum-new}
 use Rattle.history.proofs.Steps.{refusal-own, unmarked-only, marked-after}
@@ -95,8 +95,8 @@ module _ (s : Session) (w : List ℕ) (z : s .words ≡ 0 → ⊥) (o : length w
         record Ready : Type 0 where
           holds : Holds v (h .values) (h .active)
           fresh : Above v (presentOf h)
-          below : 16 + 8 * capacity v ≤ bookkeeper .bound (accept h Mark .history)
-          rest : AsLent (bookkeeper .bound (accept h Mark .history)) first v
+          below : 16 + 8 * capacity v ≤ model .bound (accept h Mark .history)
+          rest : AsLent (model .bound (accept h Mark .history)) first v
 
         ready : Ready
         ready = ⊎-elim

@@ -14,12 +14,12 @@ use Rattle.history.specs.declared.Command.the-variants.{Value, Mark, Query, Clo
 use Rattle.history.specs.declared.Answer.{Answer}
 use Rattle.history.specs.Minima.{minimum}
 use Rattle.history.specs.Replies.{Told, numbered, told, refusal}
-use Rattle.history.specs.Histories.{History, Stepped, sessionOf, blank, opening, step, bookkeeper}
+use Rattle.history.specs.Histories.{History, Stepped, sessionOf, blank, opening, step, model}
 use Rattle.history.specs.Sound.{Sound}
 use Rattle.history.proofs.Steps.{opening-refused, opening-short, opening-words}
 use Rattle.history.proofs.Soundness.{opening-sound}
 use Rattle.history.proofs.Following.{full-when, told-minimum, active-least, shown-minimum}
-use Rattle.runs.specs.Runs.{AsLent, Call, paperAfter, Made, Agrees, EachCall}
+use Rattle.runs.specs.Runs.{AsLent, Call, stateAfter, Made, Agrees, EachCall}
 use Rattle.runs.proofs.Induction.{own-length, run}
 use Rattle.engine.specs.Demand.{OpeningSays, CommandSays, Answered, Meets, Demand3}
 use Rattle.engine.specs.Promises.{AfterRefusal, AfterAcceptance, shows, Settled, Demand1}
@@ -29,8 +29,8 @@ use Rattle.engine.specs.Contracts.{Opens, Does}
 use Rattle.engine.proofs.Instance.{one-call}
 
 -- a call that agrees with the bookkeeper meets demands 2 and 3
-meets : (n : ℕ) (first now : List ℕ) (h : History) (c : Call bookkeeper) → h .words ≡ n → Sound h → Agrees bookkeeper n first now h (paperAfter bookkeeper h c) c
-    → Meets n first now h (paperAfter bookkeeper h c) c
+meets : (n : ℕ) (first now : List ℕ) (h : History) (c : Call model) → h .words ≡ n → Sound h → Agrees model n first now h (stateAfter model h c) c
+    → Meets n first now h (stateAfter model h c) c
 meets n first now h c e y a = record {
   agrees = a;
   full = λ q z o u. rw (a .tells, q) (full-when h (length (c .lent)) z o u);
@@ -60,7 +60,7 @@ settled-refused c s before after t a q z = elim (ℕ-discrete (refusal s (length
     shows-none (Close i) m = refl
 
 -- on the history of a refused opening every command is told 4
-fours : (first words : List ℕ) (cs : List (Call bookkeeper)) → EachCall bookkeeper (Meets 0 first) 0 words (blank 0 0) cs → AllTold (numbered 4) cs
+fours : (first words : List ℕ) (cs : List (Call model)) → EachCall model (Meets 0 first) 0 words (blank 0 0) cs → AllTold (numbered 4) cs
 fours first words [] a = tt
 fours first words (c ∷ cs) a = (a .0 .agrees .tells, a .0 .agrees .elsewhere refl, fours first words cs (a .1))
 
@@ -68,11 +68,11 @@ fours first words (c ∷ cs) a = (a .0 .agrees .tells, a .0 .agrees .elsewhere r
 module _ (opened : OpeningSays) (says : CommandSays) (opens : (first left : List ℕ) (o : Answer) → opened first left o → Opens first left o)
     (does : (s : Session) (c : Command) (lent left : List ℕ) (r : Answer) → says s c lent left r → Does s c lent left r) where
   -- from any start on the words `first` that returned the session of a sound history and left words that keep it
-  pub from-start : (first left : List ℕ) (h : History) (s : Session) (cs : List (Call bookkeeper)) → s ≡ sessionOf h → Sound h → AsLent (bookkeeper .bound h) first left
-      → ((h .words ≡ 0 → ⊥) → Keeps h first left) → Made bookkeeper (Answered says) (h .words) s left cs
-      → EachCall bookkeeper (Meets (h .words) first) (h .words) left h cs
+  pub from-start : (first left : List ℕ) (h : History) (s : Session) (cs : List (Call model)) → s ≡ sessionOf h → Sound h → AsLent (model .bound h) first left
+      → ((h .words ≡ 0 → ⊥) → Keeps h first left) → Made model (Answered says) (h .words) s left cs
+      → EachCall model (Meets (h .words) first) (h .words) left h cs
   from-start first left h s cs e y r k m =
-      run bookkeeper Sound Keeps (Answered says) (one-call says does) (Meets (h .words) first) (h .words) first (meets (h .words) first) left h s cs e y refl r k m
+      run model Sound Keeps (Answered says) (one-call says does) (Meets (h .words) first) (h .words) first (meets (h .words) first) left h s cs e y refl r k m
 
   pub demand-3 : Demand3 opened says
   demand-3 first left o cs q m =

@@ -14,7 +14,7 @@ use Rattle.history.specs.declared.Command.{Command}
 use Rattle.history.specs.declared.Answer.{Answer}
 use Rattle.history.specs.Minima.{Least}
 use Rattle.history.specs.Replies.{showing, told}
-use Rattle.history.specs.Histories.{History, among, sessionOf, opening, bookkeeper}
+use Rattle.history.specs.Histories.{History, among, sessionOf, opening, model}
 use Rattle.runs.specs.Runs.{AsLent, isOwn, Call, Made, Agrees, EachCall}
 
 -- what is known of an opening: the words before and after, and its answer; and of a command: the session that went in, the command, the words before and after, and its answer
@@ -25,7 +25,7 @@ abbrev pub CommandSays : Type 1
 CommandSays = Session → Command → List ℕ → List ℕ → Answer → Type 0
 
 -- a call that was made of a command tells and returns what the command's function answered
-abbrev pub Answered : CommandSays → Session → Call bookkeeper → Type 0
+abbrev pub Answered : CommandSays → Session → Call model → Type 0
 Answered says s c = (r : Answer) × says s (c .command) (c .lent) (c .left) r × (c .told ≡ told (r .reply)) × (c .session ≡ r .session)
 
 -- "After the opening", which found the words `first` and left them as `left`. Then l is 0, and the bound 512
@@ -36,9 +36,9 @@ pub record OpeningAgrees (first left : List ℕ) (o : Answer) : Type 0 where
   pub long : length left ≡ length first
 
 -- "and after every command in the list": one call, with the paper h before it and `later` after it. The opening's words were `first`, and are `now` after the call
-pub record Meets (n : ℕ) (first now : List ℕ) (h later : History) (c : Call bookkeeper) : Type 0 where
+pub record Meets (n : ℕ) (first now : List ℕ) (h later : History) (c : Call model) : Type 0 where
   -- the reply, the session and the words are as the bookkeeper has them
-  pub agrees : Agrees bookkeeper n first now h later c
+  pub agrees : Agrees model n first now h later c
   -- "A tap no earlier rule refuses is refused as full exactly when the opened number is active."
   pub full : c .command ≡ Command.Mark → (h .words ≡ 0 → ⊥) → length (c .lent) ≡ h .words → h .standing ≡ Standing.Unmarked
       → (c .told .number ≡ 10 → length (h .active) ≡ h .limit) × (length (h .active) ≡ h .limit → c .told .number ≡ 10)
@@ -51,8 +51,8 @@ pub record Meets (n : ℕ) (first now : List ℕ) (h later : History) (c : Call 
 -- THE CLAIM, where `opens` is known of the opening's function, and `says` of the commands' functions
 abbrev pub Demand3 : OpeningSays → CommandSays → Type 0
 Demand3 opens says =
-    (first left : List ℕ) (o : Answer) (calls : List (Call bookkeeper))
-    → let paper : History = opening (length first) .history in
+    (first left : List ℕ) (o : Answer) (calls : List (Call model))
+    → let start : History = opening (length first) .history in
     opens first left o
-    → Made bookkeeper (Answered says) (paper .words) (o .session) left calls
-    → OpeningAgrees first left o × EachCall bookkeeper (Meets (paper .words) first) (paper .words) left paper calls
+    → Made model (Answered says) (start .words) (o .session) left calls
+    → OpeningAgrees first left o × EachCall model (Meets (start .words) first) (start .words) left start calls

@@ -5,7 +5,7 @@ use Prim.Native.Nat.{ℕ, _+_, _*_, _≤_}
 use lib.ListN.{length}
 use Rattle.history.specs.declared.Standing.the-variants.{Unmarked}
 use Rattle.history.specs.declared.Session.{Session}
-use Rattle.history.specs.Histories.{History, presentOf, sessionOf, bookkeeper}
+use Rattle.history.specs.Histories.{History, presentOf, sessionOf, model}
 use Rattle.runs.specs.Runs.{AsLent}
 use Rattle.layout.specs.Layout.{capacity}
 use Rattle.table.specs.Marks.{Above}
@@ -16,8 +16,8 @@ pub record Keeps (h : History) (first words : List ℕ) : Type 0 where
   -- they hold the values' range minima for the active marks
   pub holds : Holds words (h .values) (h .active)
   -- what lies beyond the bound is as it was, and the table ends below it
-  pub rest : AsLent (bookkeeper .bound h) first words
-  pub below : 16 + 8 * capacity words ≤ bookkeeper .bound h
+  pub rest : AsLent (model .bound h) first words
+  pub below : 16 + 8 * capacity words ≤ model .bound h
   -- where the present position is unmarked, it comes after every row's, those of closed marks too
   pub fresh : h .standing ≡ Unmarked → Above words (presentOf h)
 

@@ -8,7 +8,7 @@ use Rattle.history.specs.declared.Command.{Command}
 use Rattle.history.specs.declared.Command.the-variants.{Value, Mark, Query, Close}
 use Rattle.history.specs.Minima.{standsAt}
 use Rattle.history.specs.Replies.{Told, numbered, accepted, showing}
-use Rattle.history.specs.Histories.{opening, bookkeeper}
+use Rattle.history.specs.Histories.{opening, model}
 use Rattle.runs.specs.Lists.{repliesOf}
 
 -- an opening of so many words, what it is told, the limit K, the commands, each lent as many words, and what each is told
@@ -26,7 +26,7 @@ worked e = record {
   opens = opening (e .words) .tells;
   limit = opening (e .words) .history .limit;
   commands = e .commands;
-  tells = repliesOf bookkeeper (opening (e .words) .history) (e .words) (e .commands);
+  tells = repliesOf model (opening (e .words) .history) (e .words) (e .commands);
 }
 
 -- each example of a list is as the bookkeeper makes it

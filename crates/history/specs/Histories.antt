@@ -5,7 +5,7 @@ use Prim.Native.Nat.{ℕ, _+_, _*_, _-_, _/_, min, max}
 use lib.IntN.{ℤ}
 use lib.Dec.{ltb, eqb}
 use lib.ListN.{length}
-use Rattle.runs.specs.Runs.{Bookkeeper}
+use Rattle.runs.specs.Runs.{Model}
 use Rattle.history.specs.declared.Position.{Position}
 use Rattle.history.specs.declared.Standing.{Standing}
 use Rattle.history.specs.declared.Session.{Session}
@@ -103,13 +103,13 @@ refusalOf h n c = refusal (sessionOf h) n (isActive h c) c
 abbrev pub step : History → ℕ → Command → Stepped
 step h n c = cond (eqb (refusalOf h n c) 0) (accept h c) (record { history = h; tells = numbered (refusalOf h n c) })
 
--- the bookkeeper of demand 3, for runs: "every word from index 512 + 64 × l on is still as it was lent"
-abbrev pub bookkeeper : Bookkeeper
-bookkeeper = record {
+-- the bookkeeper of demand 3, as a model that runs are held to: "every word from index 512 + 64 × l on is still as it was lent"
+abbrev pub model : Model
+model = record {
   Command = Command;
   Told = Told;
   Session = Session;
-  Paper = History;
+  State = History;
   step = λ h n c. step h n c .history;
   tells = λ h n c. step h n c .tells;
   sessionOf = λ h. sessionOf h;

@@ -13,10 +13,10 @@ use Rattle.history.specs.declared.Command.{Command}
 use Rattle.history.specs.declared.Answer.{Answer}
 use Rattle.history.specs.declared.Session.{Session}
 use Rattle.history.specs.Replies.{Told}
-use Rattle.history.specs.Histories.{History, Stepped, sessionOf, opening, bookkeeper}
+use Rattle.history.specs.Histories.{History, Stepped, sessionOf, opening, model}
 use Rattle.history.proofs.Steps.{opening-accepted}
 use Rattle.runs.specs.Runs.{Call, Made, EachCall, AllAgree}
-use Rattle.runs.specs.Lists.{repliesOf, paperOf, commandsOf, toldTo, AllLent, InTurn, lastSession, lastWords}
+use Rattle.runs.specs.Lists.{repliesOf, stateOf, commandsOf, toldTo, AllLent, InTurn, lastSession, lastWords}
 use Rattle.runs.proofs.Lists.{each-call, told-all, session-last, in-turn-made, in-turn-more, commands-more, told-more, session-more, words-more}
 use Rattle.reading.specs.declared.Reading.{Reading}
 use Rattle.reading.specs.declared.Reading.the-variants.{Next}
@@ -52,13 +52,13 @@ pub record Reached (bytes before : List ℕ) (s : Session) (words : List ℕ) (p
   pub few : progress .accepted ≤ progress .read
   pub small : progress .read ≤ at
   pub long : length words ≡ length before
-  pub calls : List (Call bookkeeper)
-  pub made : InTurn bookkeeper (Answered Does) s before calls
-  pub commands : Commands bytes at (commandsOf bookkeeper calls)
-  pub session : progress .session ≡ lastSession bookkeeper s calls
-  pub now : words ≡ lastWords bookkeeper before calls
+  pub calls : List (Call model)
+  pub made : InTurn model (Answered Does) s before calls
+  pub commands : Commands bytes at (commandsOf model calls)
+  pub session : progress .session ≡ lastSession model s calls
+  pub now : words ≡ lastWords model before calls
   pub read : progress .read ≡ length calls
-  pub accepted : progress .accepted ≡ acceptances (toldTo bookkeeper calls)
+  pub accepted : progress .accepted ≡ acceptances (toldTo model calls)
 
 -- nothing is read yet
 pub reached-start : (bytes before : List ℕ) (s : Session) → Reached bytes before s before (record { session = s; read = 0; accepted = 0 }) 0
@@ -89,7 +89,7 @@ pub reached-more : {bytes before words after : List ℕ} {s : Session} {progress
     → Performs progress command words after r → Reached bytes before s after r (at + used)
 reached-more {bytes} {before} {words} {after} {s} {progress} {r} {at} {g} {command} {used} u e n o =
     let m = moves bytes at (u .within) e n in
-    let c : Call bookkeeper = record { command = command; lent = words; left = after; told = o .told; session = r .session } in
+    let c : Call model = record { command = command; lent = words; left = after; told = o .told; session = r .session } in
     let found : readingOf (drop at bytes) ≡ next command used = sym (e ∙ ap readingOf (rest bytes at)) ∙ ap readAs n in
     record {
       within = m .1;
@@ -97,12 +97,12 @@ reached-more {bytes} {before} {words} {after} {s} {progress} {r} {at} {g} {comma
       small = omega (arith, m .0, u .small, o .read);
       long = o .done .1 .long ∙ u .long;
       calls = u .calls ++ (c ∷ []);
-      made = in-turn-more bookkeeper (Answered Does) s before (u .calls) c (u .made) (u .now) (rw (u .session) at (o .done));
-      commands = rw (commands-more bookkeeper (u .calls) c) (one-more command used (u .commands) found);
-      session = sym (session-more bookkeeper s (u .calls) c);
-      now = sym (words-more bookkeeper before (u .calls) c);
+      made = in-turn-more model (Answered Does) s before (u .calls) c (u .made) (u .now) (rw (u .session) at (o .done));
+      commands = rw (commands-more model (u .calls) c) (one-more command used (u .commands) found);
+      session = sym (session-more model s (u .calls) c);
+      now = sym (words-more model before (u .calls) c);
       read = omega (arith, o .read, u .read, length-append (u .calls) (c ∷ []));
-      accepted = rw (told-more bookkeeper (u .calls) c) (omega (arith, o .accepted, u .accepted, acceptances-more (toldTo bookkeeper (u .calls)) (o .told)));
+      accepted = rw (told-more model (u .calls) c) (omega (arith, o .accepted, u .accepted, acceptances-more (toldTo model (u .calls)) (o .told)));
     }
 
 -- no command more
@@ -121,7 +121,7 @@ reached-end {bytes} {at = at} u e n z = record {
 }
 
 -- as many commands as calls
-as-many : (cs : List (Call bookkeeper)) → length cs ≡ length (commandsOf bookkeeper cs)
+as-many : (cs : List (Call model)) → length cs ≡ length (commandsOf model cs)
 as-many [] = refl
 as-many (c ∷ cs) = omega (arith, as-many cs)
 
@@ -133,25 +133,25 @@ module _ {first left bytes : List ℕ} {o : Answer} {progress : Progress} (m : 5
   words : h .words ≡ length first
   words = ap (λ (x : Stepped). x .history .words) (opening-accepted (length first) m)
 
-  made : Made bookkeeper (Answered Does) (h .words) (o .session) left (f .calls) × AllLent bookkeeper (h .words) (f .calls)
-  made = in-turn-made bookkeeper (Answered Does) (λ s c d. d .1 .long) (h .words) (λ z. omega (arith, words)) (o .session) left (f .calls) (p .long ∙ sym words) (f .made)
+  made : Made model (Answered Does) (h .words) (o .session) left (f .calls) × AllLent model (h .words) (f .calls)
+  made = in-turn-made model (Answered Does) (λ s c d. d .1 .long) (h .words) (λ z. omega (arith, words)) (o .session) left (f .calls) (p .long ∙ sym words) (f .made)
 
-  demand : OpeningAgrees first left o × EachCall bookkeeper (Meets (h .words) first) (h .words) left h (f .calls)
+  demand : OpeningAgrees first left o × EachCall model (Meets (h .words) first) (h .words) left h (f .calls)
   demand = by-contract first left o (f .calls) p (made .0)
 
-  agrees : AllAgree bookkeeper (h .words) first left h (f .calls)
-  agrees = each-call bookkeeper (Meets (h .words) first) _ (λ now h later c x. x .agrees) (h .words) left h (f .calls) (demand .1)
+  agrees : AllAgree model (h .words) first left h (f .calls)
+  agrees = each-call model (Meets (h .words) first) _ (λ now h later c x. x .agrees) (h .words) left h (f .calls) (demand .1)
 
-  told : toldTo bookkeeper (f .calls) ≡ repliesOf bookkeeper h (h .words) (commandsOf bookkeeper (f .calls))
-  told = told-all bookkeeper (h .words) (h .words) first left h (f .calls) agrees (made .1)
+  told : toldTo model (f .calls) ≡ repliesOf model h (h .words) (commandsOf model (f .calls))
+  told = told-all model (h .words) (h .words) first left h (f .calls) agrees (made .1)
 
-  last : lastSession bookkeeper (o .session) (f .calls) ≡ sessionOf (paperOf bookkeeper h (h .words) (commandsOf bookkeeper (f .calls)))
-  last = session-last bookkeeper (h .words) (h .words) first left h (o .session) (f .calls) (demand .0 .session) agrees (made .1)
+  last : lastSession model (o .session) (f .calls) ≡ sessionOf (stateOf model h (h .words) (commandsOf model (f .calls)))
+  last = session-last model (h .words) (h .words) first left h (o .session) (f .calls) (demand .0 .session) agrees (made .1)
 
   plays : Plays (length first) bytes progress
   plays = record {
     at = f .at;
-    commands = commandsOf bookkeeper (f .calls);
+    commands = commandsOf model (f .calls);
     follows = f .commands;
     stops = f .stops;
     read = f .read ∙ as-many (f .calls);

@@ -8,7 +8,7 @@ use lib.ListN.{length, drop}
 use Rattle.history.specs.declared.Command.{Command}
 use Rattle.history.specs.declared.Session.{Session}
 use Rattle.history.specs.Replies.{Told}
-use Rattle.history.specs.Histories.{bookkeeper}
+use Rattle.history.specs.Histories.{model}
 use Rattle.runs.specs.Runs.{Call}
 use Rattle.runs.specs.Lists.{commandsOf, toldTo, InTurn, lastSession}
 use Rattle.reading.specs.Outcomes.{readingOf}
@@ -28,10 +28,10 @@ pub record Performs (progress : Progress) (command : Command) (before after : Li
 -- `follow`: a call for each command of the stream, in turn, from the session s and the words `before`, up to where no further command is read
 pub record Follows (s : Session) (before bytes : List ℕ) (r : Progress) : Type 0 where
   pub at : ℕ
-  pub calls : List (Call bookkeeper)
-  pub made : InTurn bookkeeper (Answered Does) s before calls
-  pub commands : Commands bytes at (commandsOf bookkeeper calls)
+  pub calls : List (Call model)
+  pub made : InTurn model (Answered Does) s before calls
+  pub commands : Commands bytes at (commandsOf model calls)
   pub stops : readingOf (drop at bytes) .command ≡ none
-  pub session : r .session ≡ lastSession bookkeeper s calls
+  pub session : r .session ≡ lastSession model s calls
   pub read : r .read ≡ length calls
-  pub accepted : r .accepted ≡ acceptances (toldTo bookkeeper calls)
+  pub accepted : r .accepted ≡ acceptances (toldTo model calls)

@@ -8,8 +8,8 @@ use lib.Dec.{eqb}
 use lib.ListN.{length, drop}
 use Rattle.history.specs.declared.Command.{Command}
 use Rattle.history.specs.Replies.{Told}
-use Rattle.history.specs.Histories.{sessionOf, opening, bookkeeper}
-use Rattle.runs.specs.Lists.{repliesOf, paperOf}
+use Rattle.history.specs.Histories.{sessionOf, opening, model}
+use Rattle.runs.specs.Lists.{repliesOf, stateOf}
 use Rattle.reading.specs.Outcomes.{next, readingOf}
 use Rattle.stream.specs.declared.Progress.{Progress}
 
@@ -33,5 +33,5 @@ pub record Plays (n : ℕ) (bytes : List ℕ) (r : Progress) : Type 0 where
   pub follows : Commands bytes at commands
   pub stops : readingOf (drop at bytes) .command ≡ none
   pub read : r .read ≡ length commands
-  pub accepted : r .accepted ≡ acceptances (repliesOf bookkeeper (opening n .history) n commands)
-  pub session : r .session ≡ sessionOf (paperOf bookkeeper (opening n .history) n commands)
+  pub accepted : r .accepted ≡ acceptances (repliesOf model (opening n .history) n commands)
+  pub session : r .session ≡ sessionOf (stateOf model (opening n .history) n commands)
