@@ -3,6 +3,7 @@ use mathlib.Core.Bool.{Bool, cond}
 use mathlib.Core.Option.{Option, none, some}
 use Prim.Native.Nat.{ℕ}
 use lib.Dec.{eqb}
+use Rattle.history.specs.declared.Position.{Position}
 use Rattle.history.specs.declared.Minimum.{Minimum}
 use Rattle.history.specs.declared.Session.{Session}
 use Rattle.history.specs.declared.Command.{Command}
@@ -29,6 +30,7 @@ accepted = numbered 0
 abbrev pub showing : Minimum → Told
 showing m = record { number = 0; shown = some m }
 
+-- the numbers of the list
 abbrev pub numberOf : Refusal → ℕ
 numberOf Refusal.AreaTooShort = 1
 numberOf Refusal.UnknownKind = 2
@@ -42,19 +44,24 @@ numberOf Refusal.AlreadyClosed = 9
 numberOf Refusal.Full = 10
 numberOf Refusal.NotActive = 11
 
+-- what each case of a reply tells
 abbrev pub told : Reply → Told
 told Reply.Accepted = accepted
 told (Reply.Lowest m) = showing m
 told (Reply.Refused why) = numbered (numberOf why)
+
+-- "The highest is 4,294,967,295."
+abbrev pub highest : Position
+highest = record { 0 = 4294967295 }
 
 -- 7 to 10, of a Mark: what is due by the standing, and then "when exactly K taps are active"
 abbrev pub markRefusal : Session → Due → ℕ
 markRefusal s (Due.Refused why) = numberOf why
 markRefusal s Due.Nothing = cond (eqb (s .active) (s .limit)) 10 0
 
--- 6 to 11, on an area of the opened length; 0: none applies. "The highest [position] is 4,294,967,295." `isActive`: whether the command's position is an active mark
+-- 6 to 11, on an area of the opened length; 0: none applies. `isActive`: whether the command's position is an active mark
 abbrev pub ownRefusal : Session → Bool → Command → ℕ
-ownRefusal s isActive (Command.Value v) = cond (eqb (s .present .0) 4294967295) 6 0
+ownRefusal s isActive (Command.Value v) = cond (eqb (s .present .0) (highest .0)) 6 0
 ownRefusal s isActive Command.Mark = markRefusal s (transitionOf Event.Mark (s .standing) .due)
 ownRefusal s isActive (Command.Query i) = cond isActive 0 11
 ownRefusal s isActive (Command.Close i) = cond isActive 0 11

@@ -64,7 +64,7 @@ module _ (w : List ℕ) (p : Position) where
   live-among h l = within-among (rows w) h (l .row, l .here, l .live)
 
   -- a position among the active ones is an active mark's
-  pub among-live : among p (activeIn w) ≡ true → (h : Held) × Live w p h
+  among-live : among p (activeIn w) ≡ true → (h : Held) × Live w p h
   among-live e = let m = among-within (rows w) e in (m .0, record { row = m .1 .0; here = m .1 .1; live = m .1 .2 })
 
   -- where a search of a table finds nothing, the position is not among the active ones

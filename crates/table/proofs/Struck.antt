@@ -1,17 +1,17 @@
 -- Closing one row strikes its position from the active ones, and no other: positions ascend, so no other row has it.
-use mathlib.Core.Path.{_≡_, refl, sym, ap}
-use mathlib.Core.List.{List, [], _∷_, append-nil}
+use mathlib.Core.Path.{_≡_, refl}
+use mathlib.Core.List.{List, [], append-nil}
 use Prim.Native.Nat.{ℕ, zero, suc, _+_, _*_, _<_}
 use native.Mathlib.Decide.{ℕ-discrete}
 use native.Mathlib.Omega.{arith}
-use lib.ListN.{length, getD, set, length-set, length-append}
+use lib.ListN.{getD, set, length-set}
 use lib.Seq.{getD-set-same, getD-set-other}
-use borrow.Author.Tests.{eq-eqb, ne-eqb}
+use borrow.Author.Tests.{eq-eqb}
 use Rattle.history.specs.declared.Position.{Position}
 use Rattle.history.specs.Histories.{without}
 use Rattle.layout.specs.declared.Held.{Held}
 use Rattle.layout.specs.Layout.{rows, position, flag, Fits}
-use Rattle.table.specs.Marks.{Linked, activeBelow, activeIn, Live}
+use Rattle.table.specs.Marks.{Linked, activeBelow}
 use Rattle.table.specs.Calls.{Released}
 use Rattle.table.proofs.Positions.{without-append, without-other, without-same}
 use Rattle.table.proofs.Active.{closed, placed, own, activeBelow-same}
@@ -48,30 +48,6 @@ struck w v h s (suc n) rising l =
           let kept : without p (own w n) ≡ own w n = without-other (closed w n) p (placed w n) (λ q. let r = rising h last (omega arith) (omega arith) in omega arith) in
           rw (older, s .positions last, s .flags last (λ q. e (omega arith)), without-append, kept)
     ]
-
--- of the first n rows, striking the position of row h, which is active, leaves one less
-one-less : (w : List ℕ) (h : Held) → (flag w h ≡ 0 → ⊥) → (n : ℕ) → ((f g : Held) → f .0 < g .0 → g .0 < n → position w f < position w g)
-    → h .0 < n → length (without (record { 0 = position w h }) (activeBelow w n)) + 1 ≡ length (activeBelow w n)
-one-less w h live zero rising l = absurd (omega arith)
-one-less w h live (suc n) rising l =
-    let p : Position = record { 0 = position w h } in
-    let last : Held = record { 0 = n } in
-    elim (ℕ-discrete (h .0) n) [
-      | yes e ↦
-          let none : without p (activeBelow w n) ≡ activeBelow w n = absent w p n (λ g m q. let r = rising g h (omega arith) l in omega arith) in
-          let open′ : own w n ≡ placed w n ∷ [] = simp (ne-eqb _ _ (λ z. live (rw (ap (λ (x : ℕ). getD w (16 + 8 * x + 1) 0) e) z))) in
-          rw (without-append, none, without-same (closed w n) p (placed w n) (rw e refl), append-nil, open′) (sym (length-append (activeBelow w n) (placed w n ∷ [])))
-      | no e ↦
-          let older = one-less w h live n (λ f g a b. rising f g a (omega arith)) (omega arith) in
-          let kept : without p (own w n) ≡ own w n = without-other (closed w n) p (placed w n) (λ q. let r = rising h last (omega arith) (omega arith) in omega arith) in
-          rw (without-append, kept) (omega (arith, length-append (without p (activeBelow w n)) (own w n), length-append (activeBelow w n) (own w n)))
-    ]
-
--- an active mark's position is struck once
-pub struck-once : (w : List ℕ) (p : Position) (h : Held) → Linked w → Live w p h → length (without p (activeIn w)) + 1 ≡ length (activeIn w)
-struck-once w p h k l =
-    let e : _≡_ {A = Position} p (record { 0 = position w h }) = λ i. record { 0 = sym (l .here) i } in
-    rw e (one-less w h (l .live) (rows w) (k .rising) (l .row))
 
 -- words whose flag of row h is set to 0 are the words with row h closed
 pub released : (w : List ℕ) (h : Held) → h .0 < rows w → Fits w → Released w (set w (16 + 8 * h .0 + 1) 0) h
