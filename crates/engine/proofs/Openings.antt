@@ -2,7 +2,7 @@
 -- its 62 rows end at word 512, which is where the words of an opening end that may be written.
 use mathlib.Core.Path.{_≡_, refl, ap}
 use mathlib.Core.List.{List}
-use Prim.Native.Nat.{ℕ, _+_, _*_, _<_, _≤_}
+use Prim.Native.Nat.{ℕ, _<_, _≤_}
 use native.Mathlib.Omega.{arith}
 use lib.ListN.{length}
 use Rattle.history.specs.declared.Refusal.the-variants.{AreaTooShort}

@@ -1,5 +1,4 @@
 // The marks that the lent words hold, each with its range minimum: one more is appended, and a rebuild keeps only the active ones.
-ghost use mathlib.Core.Path.{_≡_};
 ghost use Prim.Native.Nat.{_+_, _*_, _<_, _≤_};
 ghost use lib.ListN.{length};
 ghost use Rattle.ranges.specs.Calls.{Appended, Advanced, Carried, Rebuilt, Spared};
