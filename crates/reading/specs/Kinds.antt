@@ -35,3 +35,10 @@ commandOf Kind.Value n = Command.Value (signedOf n)
 commandOf Kind.Mark n = Command.Mark
 commandOf Kind.Query n = Command.Query (record { 0 = n })
 commandOf Kind.Close n = Command.Close (record { 0 = n })
+
+-- the length of each command: "5 or 1"
+abbrev pub bytesOf : Command → ℕ
+bytesOf (Command.Value v) = 5
+bytesOf Command.Mark = 1
+bytesOf (Command.Query i) = 5
+bytesOf (Command.Close i) = 5

@@ -1,6 +1,0 @@
-pub mod Copies
-pub mod Decimals
-pub mod SignedTexts
-pub mod Texts
-pub mod Streams
-pub mod Examples

@@ -1,4 +1,0 @@
-pub mod Writing
-pub mod Output
-pub mod Streams
-pub mod Private

@@ -1,0 +1,93 @@
+-- How many bytes the lines take. A command's line has no more than eleven for each byte of the command: that of a Mark, which has one byte, shows no minimum, and any other command has
+-- five bytes.
+use mathlib.Core.Path.{_≡_, refl, ap, _∙_}
+use mathlib.Core.List.{List, [], _∷_, _++_}
+use mathlib.Core.Logic.{⊎-elim}
+use mathlib.Core.Option.{none}
+use Prim.Native.Nat.{ℕ, _+_, _*_, _<_, _≤_}
+use native.Mathlib.Omega.{arith}
+use native.Mathlib.Decide.{ℕ-discrete}
+use lib.ListN.{length, length-append}
+use Rattle.history.specs.declared.Refusal.{Refusal}
+use Rattle.history.specs.declared.Reply.{Reply}
+use Rattle.history.specs.declared.Session.{Session}
+use Rattle.history.specs.declared.Command.{Command}
+use Rattle.history.specs.declared.Command.the-variants.{Value, Mark, Query, Close}
+use Rattle.history.specs.declared.Answer.{Answer}
+use Rattle.history.specs.Replies.{Told, numberOf, told, refusal}
+use Rattle.reading.specs.Kinds.{bytesOf}
+use Rattle.engine.specs.Promises.{AfterAcceptance, AfterRefusal}
+use Rattle.engine.specs.Contracts.{Does}
+use Rattle.transcript.specs.Writing.{Adds, decimalOf}
+use Rattle.transcript.specs.Lines.{newline, tapsLine, replyText, answerLine, stopLine, endLine}
+use Rattle.transcript.proofs.Decimals.{within, capped}
+
+-- the other lines, number by number
+pub taps-long : (limit : ℕ) → length (tapsLine limit) ≡ 6 + length (decimalOf limit)
+taps-long limit = omega (arith, length-append (decimalOf limit) newline)
+
+pub stop-long : (at number : ℕ) → length (stopLine at number) ≡ 7 + length (decimalOf at) + length (decimalOf number)
+stop-long at number =
+    let second : List ℕ = decimalOf number ++ newline in
+    omega (arith, length-append (decimalOf at) (32 ∷ second), length-append (decimalOf number) newline)
+
+pub end-long : (read accepted active : ℕ) → length (endLine read accepted active) ≡ 7 + length (decimalOf read) + length (decimalOf accepted) + length (decimalOf active)
+end-long read accepted active =
+    let third : List ℕ = decimalOf active ++ newline in
+    let second : List ℕ = decimalOf accepted ++ (32 ∷ third) in
+    omega (arith, length-append (decimalOf read) (32 ∷ second), length-append (decimalOf accepted) (32 ∷ third), length-append (decimalOf active) newline)
+
+-- and at most: a number has no more than twenty digits
+pub taps-most : (limit : ℕ) → length (tapsLine limit) ≤ 26
+taps-most limit = omega (arith, taps-long limit, capped 20 limit)
+
+pub stop-most : (at number : ℕ) → length (stopLine at number) ≤ 47
+stop-most at number = omega (arith, stop-long at number, capped 20 at, capped 20 number)
+
+pub end-most : (read accepted active : ℕ) → length (endLine read accepted active) ≤ 67
+end-most read accepted active = omega (arith, end-long read accepted active, capped 20 read, capped 20 accepted, capped 20 active)
+
+-- no refusal's number has more than two digits
+number-few : (why : Refusal) → numberOf why < 100
+number-few Refusal.AreaTooShort = omega arith
+number-few Refusal.UnknownKind = omega arith
+number-few Refusal.ArgumentCutOff = omega arith
+number-few Refusal.Unopened = omega arith
+number-few Refusal.OtherLength = omega arith
+number-few Refusal.LastPosition = omega arith
+number-few Refusal.NothingToMark = omega arith
+number-few Refusal.AlreadyMarked = omega arith
+number-few Refusal.AlreadyClosed = omega arith
+number-few Refusal.Full = omega arith
+number-few Refusal.NotActive = omega arith
+
+-- nor has any reply's
+told-few : (r : Reply) → told r .number < 100
+told-few Reply.Accepted = omega arith
+told-few (Reply.Lowest m) = omega arith
+told-few (Reply.Refused why) = number-few why
+
+-- a Mark is shown nothing
+mark-bare : {s : Session} {before after : List ℕ} {r : Answer} → Does s Mark before after r → told (r .reply) .shown ≡ none
+mark-bare {s} {before} {after} {r} d = elim (ℕ-discrete (refusal s (length before) (d .settled .taken) Mark) 0) [
+  | yes e ↦ ⊎-elim
+      (λ (x : AfterAcceptance Mark s before after (r .session) (told (r .reply))). ap (λ (t : Told). t .shown) (x .tells))
+      (λ (x : (_≡_ {A = Command} Mark Mark) × AfterRefusal 10 s before after (r .session) (told (r .reply))). ap (λ (t : Told). t .shown) (x .1 .tells))
+      (d .settled .accepts e)
+  | no e ↦ ap (λ (t : Told). t .shown) (d .settled .refuses e .tells)
+]
+
+-- its line: five digits, a space, the letter, a space, two digits and the line's end
+mark-line : (n : ℕ) (t : Told) → n < 100000 → t .number < 100 → t .shown ≡ none → length (answerLine n Mark t) ≤ 11
+mark-line n t few small bare =
+    let reply : length (replyText t) ≡ length (decimalOf (t .number) ++ []) = rw bare in
+    let behind : List ℕ = 32 ∷ 77 ∷ 32 ∷ (replyText t ++ newline) in
+    omega (arith, reply, length-append (decimalOf (t .number)) [], length-append (replyText t) newline, length-append (decimalOf n) behind, within 20 4 n few, within 20 1 (t .number) small)
+
+-- what the line of a command takes
+pub takes : {s : Session} (c : Command) {before after out written : List ℕ} {r : Answer} {n used now : ℕ} → Does s c before after r → n < 100000
+    → Adds out used (answerLine n c (told (r .reply))) written now → now ≤ used + 35 → now ≤ used + 11 * bytesOf c
+takes (Value v) d few a l = omega arith
+takes Mark {r = r} {n} d few a l = omega (arith, a .counts, mark-line n (told (r .reply)) few (told-few (r .reply)) (mark-bare d))
+takes (Query i) d few a l = omega arith
+takes (Close i) d few a l = omega arith

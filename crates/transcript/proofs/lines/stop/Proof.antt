@@ -1,0 +1,68 @@
+-- `transcript::lines::stop` meets its contract: the texts that are put one after the other are those of the line, and the room for the line is room for each of them.
+use borrow.Author.Needs.{needs}
+use native.Mathlib.Omega.{arith}
+use Rattle.history.specs.Replies.{numberOf}
+use Rattle.transcript.proofs.Rooms.{stop-long}
+use Rattle.transcript.proofs.Texts.{then}
+use Rattle.transcript.proofs.lines.stop.Statement.{statement}
+use Rattle.transcript.proofs.lines.stop.Tie as tie
+
+slice-aggregate-put-numbered : tie.Need-slice-aggregate-put-numbered
+slice-aggregate-put-numbered c = search needs
+
+put-numbered-requires : tie.Need-put-numbered-requires
+put-numbered-requires c κs =
+    let s = c .before .before .before in
+    omega (arith, s .pre, stop-long (s .args .offset) (numberOf (s .args .why)))
+
+slice-aggregate-put-numbered-2 : tie.Need-slice-aggregate-put-numbered-2
+slice-aggregate-put-numbered-2 c = search needs
+
+number-requires : tie.Need-number-requires
+number-requires c κs = search needs
+
+cast-put-numbered : tie.Need-cast-put-numbered
+cast-put-numbered c = search needs
+
+put-numbered-requires-2 : tie.Need-put-numbered-requires-2
+put-numbered-requires-2 c κs =
+    let a = c .before .before .before .before .before in
+    let s = a .before .before .before .before in
+    rw (c .number .ensures)
+    (omega (arith, s .pre, a .put-numbered .ensures .counts, a .put-numbered .ensures .long, stop-long (s .args .offset) (numberOf (s .args .why))))
+
+slice-aggregate-put : tie.Need-slice-aggregate-put
+slice-aggregate-put c = search needs
+
+put-requires : tie.Need-put-requires
+put-requires c κs =
+    let b = c .before .before .before .before in
+    let a = b .before .before .before .before .before .before in
+    let s = a .before .before .before .before in
+    let e = rw (b .before .number .ensures) at (b .put-numbered2 .ensures) in
+    omega (arith, s .pre, a .put-numbered .ensures .counts, a .put-numbered .ensures .long, e .counts, e .long, stop-long (s .args .offset) (numberOf (s .args .why)))
+
+same-length : tie.Need-same-length
+same-length c = search needs
+
+returns : tie.Need-returns
+returns c =
+    let e = c .before .before in
+    let b = e .before .before .before .before .before in
+    let a = b .before .before .before .before .before .before in
+    rw (← (b .before .number .ensures)) (then (a .put-numbered .ensures) (then (b .put-numbered2 .ensures) (e .put .ensures)))
+
+pub stop-spec : {M : Type 1} → statement M
+stop-spec =
+    tie.close
+    (tie.spec
+    slice-aggregate-put-numbered
+    put-numbered-requires
+    slice-aggregate-put-numbered-2
+    number-requires
+    cast-put-numbered
+    put-numbered-requires-2
+    slice-aggregate-put
+    put-requires
+    same-length
+    returns)

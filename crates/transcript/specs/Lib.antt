@@ -1,0 +1,5 @@
+pub mod Writing
+pub mod Lines
+pub mod Streams
+pub mod Output
+pub mod Private

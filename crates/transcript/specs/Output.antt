@@ -1,0 +1,43 @@
+-- Document 01, "Played examples": the whole output of the stream program, as a function of its bytes.
+use mathlib.Core.Bool.{cond}
+use mathlib.Core.List.{List, [], _∷_, _++_}
+use mathlib.Core.Option.{Option, none, some}
+use Prim.Native.Nat.{ℕ, _+_}
+use lib.Dec.{eqb}
+use lib.ListN.{length, take}
+use Rattle.history.specs.declared.Command.{Command}
+use Rattle.history.specs.Replies.{Told}
+use Rattle.history.specs.Histories.{History, opening, model}
+use Rattle.runs.specs.Lists.{repliesOf, stateOf}
+use Rattle.transcript.specs.Lines.{tapsLine, answerLine, stopLine, endLine}
+use Rattle.transcript.specs.Streams.{Stream, streamOf}
+
+-- "per command its running number", here from n on: a line for each command and what it is told
+abbrev pub answerLines : ℕ → List Command → List Told → List ℕ
+answerLines n [] told = []
+answerLines n (c ∷ cs) [] = []
+answerLines n (c ∷ cs) (t ∷ ts) = answerLine n c t ++ answerLines (n + 1) cs ts
+
+-- "upon a reading refusal `stop`": a line at the offset where there is one
+abbrev pub stopLines : ℕ → Option ℕ → List ℕ
+stopLines at none = []
+stopLines at (some number) = stopLine at number
+
+-- "commands accepted": how many of those that were told so
+abbrev pub acceptances : List Told → ℕ
+acceptances [] = 0
+acceptances (t ∷ ts) = cond (eqb (t .number) 0) 1 0 + acceptances ts
+
+-- what is printed of a stream whose commands go to the bookkeeper of an opening of n words, each lent as many: "It prints `taps 60`; per command ..; upon a reading refusal `stop` ..;
+-- finally `end` with commands read, commands accepted and active taps"
+abbrev pub printed : ℕ → Stream → List ℕ
+printed n s =
+    let start : History = opening n .history in
+    let told : List Told = repliesOf model start n (s .commands) in
+    tapsLine (start .limit)
+    ++ (answerLines 1 (s .commands) told
+    ++ (stopLines (s .at) (s .refusal) ++ endLine (length (s .commands)) (acceptances told) (length (stateOf model start n (s .commands) .active))))
+
+-- THE WHOLE OUTPUT: "The stream program opens 4,352 words (K = 60) and reads at most the first 16,384 bytes."
+abbrev pub outputOf : List ℕ → List ℕ
+outputOf bytes = printed 4352 (streamOf (take 16384 bytes))

@@ -1,0 +1,86 @@
+// The lines that document 01 has the stream program print, each written behind the bytes that are written already.
+ghost use mathlib.Core.Path.{_≡_};
+ghost use Prim.Native.Nat.{_+_, _<_, _≤_};
+ghost use lib.ListN.{length};
+ghost use Rattle.history.specs.Replies.{numberOf, told};
+ghost use Rattle.transcript.specs.Writing.{Adds};
+ghost use Rattle.transcript.specs.Lines.{letterOf, tapsLine, minimumText, replyText, answerLine, stopLine, endLine};
+use crate::text::put;
+use crate::text::put_number;
+use crate::text::put_numbered;
+use crate::text::put_signed;
+use history::Command;
+use history::Minimum;
+use history::Refusal;
+use history::Reply;
+
+pub fn taps(out: &mut [u8], used: usize, limit: usize) -> usize
+    requires { ⌜ used + length (tapsLine limit) ≤ length (now out) ⌝ }
+    ensures { λ r. ⌜ Adds (now (out .entry)) used (tapsLine limit) (now (out .exit)) r ⌝ }
+{
+    let number = put_numbered(out, used, b"taps ", limit as u64);
+    put(out, number, b"\n")
+}
+
+fn letter(command: Command) -> u8
+    ensures { λ r. ⌜ r ≡ letterOf command ⌝ }
+{
+    match command {
+        Command::Value(_) => b'V',
+        Command::Mark => b'M',
+        Command::Query(_) => b'Q',
+        Command::Close(_) => b'C',
+    }
+}
+
+fn put_minimum(out: &mut [u8], used: usize, minimum: Minimum) -> usize
+    requires { ⌜ used + 23 ≤ length (now out) ⌝ }
+    ensures { λ r. ⌜ Adds (now (out .entry)) used (minimumText minimum) (now (out .exit)) r × (r ≤ used + 23) ⌝ }
+{
+    let space = put(out, used, b" ");
+    let value = put_signed(out, space, minimum.value);
+    let place = minimum.place;
+    put_numbered(out, value, b" ", place.0 as u64)
+}
+
+fn put_reply(out: &mut [u8], used: usize, reply: Reply) -> usize
+    requires { ⌜ used + 26 ≤ length (now out) ⌝ }
+    ensures { λ r. ⌜ Adds (now (out .entry)) used (replyText (told reply)) (now (out .exit)) r × (r ≤ used + 26) ⌝ }
+{
+    let number = put_number(out, used, history::reply_number(reply) as u64);
+    match reply {
+        Reply::Lowest(minimum) => put_minimum(out, number, minimum),
+        Reply::Accepted => number,
+        Reply::Refused(_) => number,
+    }
+}
+
+// The line of the n-th command, whose number has no more than five digits.
+pub fn answer(out: &mut [u8], used: usize, n: usize, command: Command, reply: Reply) -> usize
+    requires { ⌜ (n < 100000) × (used + 35 ≤ length (now out)) ⌝ }
+    ensures { λ r. ⌜ Adds (now (out .entry)) used (answerLine n command (told reply)) (now (out .exit)) r × (r ≤ used + 35) ⌝ }
+{
+    let number = put_number(out, used, n as u64);
+    let kind = put(out, number, &[b' ', letter(command), b' ']);
+    let said = put_reply(out, kind, reply);
+    put(out, said, b"\n")
+}
+
+pub fn stop(out: &mut [u8], used: usize, offset: usize, why: Refusal) -> usize
+    requires { ⌜ used + length (stopLine offset (numberOf why)) ≤ length (now out) ⌝ }
+    ensures { λ r. ⌜ Adds (now (out .entry)) used (stopLine offset (numberOf why)) (now (out .exit)) r ⌝ }
+{
+    let start = put_numbered(out, used, b"stop ", offset as u64);
+    let number = put_numbered(out, start, b" ", history::number(why) as u64);
+    put(out, number, b"\n")
+}
+
+pub fn end(out: &mut [u8], used: usize, read: usize, accepted: usize, active: usize) -> usize
+    requires { ⌜ used + length (endLine read accepted active) ≤ length (now out) ⌝ }
+    ensures { λ r. ⌜ Adds (now (out .entry)) used (endLine read accepted active) (now (out .exit)) r ⌝ }
+{
+    let first = put_numbered(out, used, b"end ", read as u64);
+    let second = put_numbered(out, first, b" ", accepted as u64);
+    let third = put_numbered(out, second, b" ", active as u64);
+    put(out, third, b"\n")
+}
