@@ -1,5 +1,4 @@
--- How many bytes the lines take. A command's line has no more than eleven for each byte of the command: that of a Mark, which has one byte, shows no minimum, and any other command has
--- five bytes.
+-- How many bytes a command's line takes: no more than eleven for each byte of the command. The line of a Mark, which has one byte, shows no minimum; any other command has five bytes.
 use mathlib.Core.Path.{_≡_, refl, ap, _∙_}
 use mathlib.Core.List.{List, [], _∷_, _++_}
 use mathlib.Core.Logic.{⊎-elim}
@@ -19,33 +18,8 @@ use Rattle.reading.specs.Kinds.{bytesOf}
 use Rattle.engine.specs.Promises.{AfterAcceptance, AfterRefusal}
 use Rattle.engine.specs.Contracts.{Does}
 use Rattle.transcript.specs.Writing.{Adds, decimalOf}
-use Rattle.transcript.specs.Lines.{newline, tapsLine, replyText, answerLine, stopLine, endLine}
-use Rattle.transcript.proofs.Decimals.{within, capped}
-
--- the other lines, number by number
-pub taps-long : (limit : ℕ) → length (tapsLine limit) ≡ 6 + length (decimalOf limit)
-taps-long limit = omega (arith, length-append (decimalOf limit) newline)
-
-pub stop-long : (at number : ℕ) → length (stopLine at number) ≡ 7 + length (decimalOf at) + length (decimalOf number)
-stop-long at number =
-    let second : List ℕ = decimalOf number ++ newline in
-    omega (arith, length-append (decimalOf at) (32 ∷ second), length-append (decimalOf number) newline)
-
-pub end-long : (read accepted active : ℕ) → length (endLine read accepted active) ≡ 7 + length (decimalOf read) + length (decimalOf accepted) + length (decimalOf active)
-end-long read accepted active =
-    let third : List ℕ = decimalOf active ++ newline in
-    let second : List ℕ = decimalOf accepted ++ (32 ∷ third) in
-    omega (arith, length-append (decimalOf read) (32 ∷ second), length-append (decimalOf accepted) (32 ∷ third), length-append (decimalOf active) newline)
-
--- and at most: a number has no more than twenty digits
-pub taps-most : (limit : ℕ) → length (tapsLine limit) ≤ 26
-taps-most limit = omega (arith, taps-long limit, capped 20 limit)
-
-pub stop-most : (at number : ℕ) → length (stopLine at number) ≤ 47
-stop-most at number = omega (arith, stop-long at number, capped 20 at, capped 20 number)
-
-pub end-most : (read accepted active : ℕ) → length (endLine read accepted active) ≤ 67
-end-most read accepted active = omega (arith, end-long read accepted active, capped 20 read, capped 20 accepted, capped 20 active)
+use Rattle.transcript.specs.Lines.{newline, replyText, answerLine}
+use Rattle.transcript.proofs.Decimals.{within}
 
 -- no refusal's number has more than two digits
 number-few : (why : Refusal) → numberOf why < 100

@@ -1,4 +1,4 @@
-// The lines that document 01 has the stream program print, each written behind the bytes that are written already.
+// The lines that document 01 has the stream program print, each written behind the bytes that are written already, where there is room for the longest such line.
 ghost use mathlib.Core.Path.{_≡_};
 ghost use Prim.Native.Nat.{_+_, _<_, _≤_};
 ghost use lib.ListN.{length};
@@ -15,8 +15,8 @@ use history::Refusal;
 use history::Reply;
 
 pub fn taps(out: &mut [u8], used: usize, limit: usize) -> usize
-    requires { ⌜ used + length (tapsLine limit) ≤ length (now out) ⌝ }
-    ensures { λ r. ⌜ Adds (now (out .entry)) used (tapsLine limit) (now (out .exit)) r ⌝ }
+    requires { ⌜ used + 26 ≤ length (now out) ⌝ }
+    ensures { λ r. ⌜ Adds (now (out .entry)) used (tapsLine limit) (now (out .exit)) r × (r ≤ used + 26) ⌝ }
 {
     let number = put_numbered(out, used, b"taps ", limit as u64);
     put(out, number, b"\n")
@@ -67,8 +67,8 @@ pub fn answer(out: &mut [u8], used: usize, n: usize, command: Command, reply: Re
 }
 
 pub fn stop(out: &mut [u8], used: usize, offset: usize, why: Refusal) -> usize
-    requires { ⌜ used + length (stopLine offset (numberOf why)) ≤ length (now out) ⌝ }
-    ensures { λ r. ⌜ Adds (now (out .entry)) used (stopLine offset (numberOf why)) (now (out .exit)) r ⌝ }
+    requires { ⌜ used + 47 ≤ length (now out) ⌝ }
+    ensures { λ r. ⌜ Adds (now (out .entry)) used (stopLine offset (numberOf why)) (now (out .exit)) r × (r ≤ used + 47) ⌝ }
 {
     let start = put_numbered(out, used, b"stop ", offset as u64);
     let number = put_numbered(out, start, b" ", history::number(why) as u64);
@@ -76,8 +76,8 @@ pub fn stop(out: &mut [u8], used: usize, offset: usize, why: Refusal) -> usize
 }
 
 pub fn end(out: &mut [u8], used: usize, read: usize, accepted: usize, active: usize) -> usize
-    requires { ⌜ used + length (endLine read accepted active) ≤ length (now out) ⌝ }
-    ensures { λ r. ⌜ Adds (now (out .entry)) used (endLine read accepted active) (now (out .exit)) r ⌝ }
+    requires { ⌜ used + 67 ≤ length (now out) ⌝ }
+    ensures { λ r. ⌜ Adds (now (out .entry)) used (endLine read accepted active) (now (out .exit)) r × (r ≤ used + 67) ⌝ }
 {
     let first = put_numbered(out, used, b"end ", read as u64);
     let second = put_numbered(out, first, b" ", accepted as u64);

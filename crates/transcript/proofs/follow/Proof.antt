@@ -6,8 +6,6 @@ use mathlib.Core.List.{append-nil}
 use Prim.Native.Nat.{_+_, _-_, _≤_}
 use native.Mathlib.Omega.{arith}
 use lib.ListN.{length, take}
-use Rattle.history.specs.Replies.{numberOf}
-use Rattle.transcript.proofs.Rooms.{stop-most}
 use Rattle.transcript.proofs.Streams.{Reached, reached-start, moves, reached-more, reached-end}
 use Rattle.transcript.proofs.follow.Statement.{statement}
 use Rattle.transcript.proofs.follow.Tie as tie
@@ -93,7 +91,7 @@ stop-requires c κs =
     let l = r .before .before .before .before in
     let s = l .before .before .before .before in
     let v = l .loop .inv in
-    omega (arith, v .fits, v .within, v .prints .long, s .pre .0, s .pre .1, stop-most (l .loop .at) (numberOf (r .reading2 .given .0 .0)))
+    omega (arith, v .fits, v .within, v .prints .long, s .pre .0, s .pre .1)
 
 same-length-3 : tie.Need-same-length-3 Inv-loop μ-loop
 same-length-3 c = c .before .before .before .before .before .before .before .before .before .before .loop .inv .long
@@ -101,7 +99,7 @@ same-length-3 c = c .before .before .before .before .before .before .before .bef
 same-length-4 : tie.Need-same-length-4 Inv-loop μ-loop
 same-length-4 c =
     let p = c .before .before .before in
-    p .stop .ensures .long ∙ p .before .before .before .before .before .before .before .loop .inv .prints .long
+    p .stop .ensures .0 .long ∙ p .before .before .before .before .before .before .before .loop .inv .prints .long
 
 returns-2 : tie.Need-returns-2 Inv-loop μ-loop
 returns-2 c =
@@ -109,8 +107,8 @@ returns-2 c =
     let r = p .before .before .before in
     let l = r .before .before .before .before in
     let s = l .before .before .before .before in
-    reached-end (l .loop .inv) (r .before .before .read .ensures) (r .reading2 .given .1) refl (p .stop .ensures)
-    (omega (arith, p .stop .ensures .counts, l .loop .inv .fits, l .loop .inv .within, s .pre .0, stop-most (l .loop .at) (numberOf (r .reading2 .given .0 .0))))
+    reached-end (l .loop .inv) (r .before .before .read .ensures) (r .reading2 .given .1) refl (p .stop .ensures .0)
+    (omega (arith, p .stop .ensures .1, l .loop .inv .fits, l .loop .inv .within, s .pre .0))
 
 pub follow-spec : {M : Type 1} → statement M
 follow-spec =

@@ -4,7 +4,6 @@ use mathlib.Core.Path.{_≡_, _∙_}
 use Prim.Native.Nat.{ℕ}
 use native.Mathlib.Omega.{arith}
 use lib.ListN.{length-replicate}
-use Rattle.transcript.proofs.Rooms.{taps-most, end-most}
 use Rattle.transcript.proofs.Texts.{counted}
 use Rattle.transcript.proofs.Whole.{whole-run}
 use Rattle.transcript.proofs.play.Statement.{statement}
@@ -19,7 +18,7 @@ open-requires c κs = search needs
 taps-requires : tie.Need-taps-requires
 taps-requires c κs =
     let o = c .before .before .before in
-    omega (arith, o .before .before .before .before .pre, taps-most (o .«open» .result .session .limit))
+    omega (arith, o .before .before .before .before .pre)
 
 slice-aggregate-follow : tie.Need-slice-aggregate-follow
 slice-aggregate-follow c = search needs
@@ -29,7 +28,7 @@ follow-requires c κs =
     let t = c .before .before .before .before in
     let o = t .before .before .before .before in
     let s = o .before .before .before .before in
-    (s .pre .0, omega (arith, s .pre .1, t .taps .ensures .counts, t .taps .ensures .long, taps-most (o .«open» .result .session .limit)))
+    (s .pre .0, omega (arith, s .pre .1, t .taps .ensures .1, t .taps .ensures .0 .long))
 
 end-requires : tie.Need-end-requires
 end-requires c κs =
@@ -37,23 +36,20 @@ end-requires c κs =
     let t = f .before .before .before .before .before in
     let o = t .before .before .before .before in
     let s = o .before .before .before .before in
-    let r = f .follow .result in
     omega (
       arith,
       s .pre .1,
-      t .taps .ensures .counts,
-      t .taps .ensures .long,
+      t .taps .ensures .1,
+      t .taps .ensures .0 .long,
       f .follow .ensures .fits,
       f .follow .ensures .prints .long,
-      taps-most (o .«open» .result .session .limit),
-      end-most (r .read) (r .accepted) (r .session .active),
     )
 
 same-length : tie.Need-same-length
 same-length c =
     let e = c .before .before in
     let f = e .before .before .before .before .before .before in
-    e .end .ensures .long ∙ f .follow .ensures .prints .long ∙ f .before .before .before .before .before .taps .ensures .long
+    e .end .ensures .0 .long ∙ f .follow .ensures .prints .long ∙ f .before .before .before .before .before .taps .ensures .0 .long
 
 returns : tie.Need-returns
 returns c =
@@ -61,21 +57,18 @@ returns c =
     let f = e .before .before .before .before .before .before in
     let t = f .before .before .before .before .before in
     let o = t .before .before .before .before in
-    let s = o .before .before .before .before in
-    let r = f .follow .result in (
-      whole-run (length-replicate {A = ℕ} _ 0) (omega arith) (o .«open» .ensures) (t .taps .ensures) (f .follow .ensures) (e .end .ensures),
+    let s = o .before .before .before .before in (
+      whole-run {n = 4352} (length-replicate {A = ℕ} _ 0) (omega arith) (o .«open» .ensures) (t .taps .ensures .0) (f .follow .ensures) (e .end .ensures .0),
       counted (e .end .result) (e .end .last .0)
           (omega (
             arith,
             s .pre .1,
-            t .taps .ensures .counts,
-            t .taps .ensures .long,
+            t .taps .ensures .1,
+            t .taps .ensures .0 .long,
             f .follow .ensures .fits,
             f .follow .ensures .prints .long,
-            e .end .ensures .counts,
-            e .end .ensures .long,
-            taps-most (o .«open» .result .session .limit),
-            end-most (r .read) (r .accepted) (r .session .active),
+            e .end .ensures .1,
+            e .end .ensures .0 .long,
           )),
     )
 

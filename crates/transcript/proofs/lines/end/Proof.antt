@@ -1,7 +1,7 @@
--- `transcript::lines::end` meets its contract: the texts that are put one after the other are those of the line, and the room for the line is room for each of them.
+-- `transcript::lines::end` meets its contract: the texts that are put one after the other are those of the line, and a number has no more than twenty digits.
 use borrow.Author.Needs.{needs}
 use native.Mathlib.Omega.{arith}
-use Rattle.transcript.proofs.Rooms.{end-long}
+use Rattle.transcript.proofs.Decimals.{capped}
 use Rattle.transcript.proofs.Texts.{then}
 use Rattle.transcript.proofs.lines.end.Statement.{statement}
 use Rattle.transcript.proofs.lines.end.Tie as tie
@@ -12,7 +12,7 @@ slice-aggregate-put-numbered c = search needs
 put-numbered-requires : tie.Need-put-numbered-requires
 put-numbered-requires c κs =
     let s = c .before .before .before in
-    omega (arith, s .pre, end-long (s .args .read) (s .args .accepted) (s .args .active))
+    omega (arith, s .pre, capped 20 (s .args .read))
 
 slice-aggregate-put-numbered-2 : tie.Need-slice-aggregate-put-numbered-2
 slice-aggregate-put-numbered-2 c = search needs
@@ -21,7 +21,7 @@ put-numbered-requires-2 : tie.Need-put-numbered-requires-2
 put-numbered-requires-2 c κs =
     let a = c .before .before .before .before in
     let s = a .before .before .before .before in
-    omega (arith, s .pre, a .put-numbered .ensures .counts, a .put-numbered .ensures .long, end-long (s .args .read) (s .args .accepted) (s .args .active))
+    omega (arith, s .pre, a .put-numbered .ensures .counts, a .put-numbered .ensures .long, capped 20 (s .args .read), capped 20 (s .args .accepted))
 
 slice-aggregate-put-numbered-3 : tie.Need-slice-aggregate-put-numbered-3
 slice-aggregate-put-numbered-3 c = search needs
@@ -31,7 +31,7 @@ put-numbered-requires-3 c κs =
     let b = c .before .before .before .before in
     let a = b .before .before .before .before .before in
     let s = a .before .before .before .before in
-    omega (arith, s .pre, a .put-numbered .ensures .counts, a .put-numbered .ensures .long, b .put-numbered2 .ensures .counts, b .put-numbered2 .ensures .long, end-long (s .args .read) (s .args .accepted) (s .args .active))
+    omega (arith, s .pre, a .put-numbered .ensures .counts, a .put-numbered .ensures .long, b .put-numbered2 .ensures .counts, b .put-numbered2 .ensures .long, capped 20 (s .args .read), capped 20 (s .args .accepted), capped 20 (s .args .active))
 
 slice-aggregate-put : tie.Need-slice-aggregate-put
 slice-aggregate-put c = search needs
@@ -42,7 +42,7 @@ put-requires c κs =
     let b = d .before .before .before .before .before in
     let a = b .before .before .before .before .before in
     let s = a .before .before .before .before in
-    omega (arith, s .pre, a .put-numbered .ensures .counts, a .put-numbered .ensures .long, b .put-numbered2 .ensures .counts, b .put-numbered2 .ensures .long, d .put-numbered3 .ensures .counts, d .put-numbered3 .ensures .long, end-long (s .args .read) (s .args .accepted) (s .args .active))
+    omega (arith, s .pre, a .put-numbered .ensures .counts, a .put-numbered .ensures .long, b .put-numbered2 .ensures .counts, b .put-numbered2 .ensures .long, d .put-numbered3 .ensures .counts, d .put-numbered3 .ensures .long, capped 20 (s .args .read), capped 20 (s .args .accepted), capped 20 (s .args .active))
 
 same-length : tie.Need-same-length
 same-length c = search needs
@@ -53,7 +53,10 @@ returns c =
     let d = e .before .before .before .before .before in
     let b = d .before .before .before .before .before in
     let a = b .before .before .before .before .before in
-    then (a .put-numbered .ensures) (then (b .put-numbered2 .ensures) (then (d .put-numbered3 .ensures) (e .put .ensures)))
+    let s = a .before .before .before .before in (
+      then (a .put-numbered .ensures) (then (b .put-numbered2 .ensures) (then (d .put-numbered3 .ensures) (e .put .ensures))),
+      omega (arith, a .put-numbered .ensures .counts, b .put-numbered2 .ensures .counts, d .put-numbered3 .ensures .counts, e .put .ensures .counts, capped 20 (s .args .read), capped 20 (s .args .accepted), capped 20 (s .args .active)),
+    )
 
 pub end-spec : {M : Type 1} → statement M
 end-spec =

@@ -1,8 +1,7 @@
--- `transcript::lines::stop` meets its contract: the texts that are put one after the other are those of the line, and the room for the line is room for each of them.
+-- `transcript::lines::stop` meets its contract: the texts that are put one after the other are those of the line, and a number has no more than twenty digits.
 use borrow.Author.Needs.{needs}
 use native.Mathlib.Omega.{arith}
-use Rattle.history.specs.Replies.{numberOf}
-use Rattle.transcript.proofs.Rooms.{stop-long}
+use Rattle.transcript.proofs.Decimals.{capped}
 use Rattle.transcript.proofs.Texts.{then}
 use Rattle.transcript.proofs.lines.stop.Statement.{statement}
 use Rattle.transcript.proofs.lines.stop.Tie as tie
@@ -13,7 +12,7 @@ slice-aggregate-put-numbered c = search needs
 put-numbered-requires : tie.Need-put-numbered-requires
 put-numbered-requires c κs =
     let s = c .before .before .before in
-    omega (arith, s .pre, stop-long (s .args .offset) (numberOf (s .args .why)))
+    omega (arith, s .pre, capped 20 (s .args .offset))
 
 slice-aggregate-put-numbered-2 : tie.Need-slice-aggregate-put-numbered-2
 slice-aggregate-put-numbered-2 c = search needs
@@ -28,8 +27,7 @@ put-numbered-requires-2 : tie.Need-put-numbered-requires-2
 put-numbered-requires-2 c κs =
     let a = c .before .before .before .before .before in
     let s = a .before .before .before .before in
-    rw (c .number .ensures)
-    (omega (arith, s .pre, a .put-numbered .ensures .counts, a .put-numbered .ensures .long, stop-long (s .args .offset) (numberOf (s .args .why))))
+    omega (arith, s .pre, a .put-numbered .ensures .counts, a .put-numbered .ensures .long, capped 20 (s .args .offset), capped 20 (c .number .result))
 
 slice-aggregate-put : tie.Need-slice-aggregate-put
 slice-aggregate-put c = search needs
@@ -39,8 +37,7 @@ put-requires c κs =
     let b = c .before .before .before .before in
     let a = b .before .before .before .before .before .before in
     let s = a .before .before .before .before in
-    let e = rw (b .before .number .ensures) at (b .put-numbered2 .ensures) in
-    omega (arith, s .pre, a .put-numbered .ensures .counts, a .put-numbered .ensures .long, e .counts, e .long, stop-long (s .args .offset) (numberOf (s .args .why)))
+    omega (arith, s .pre, a .put-numbered .ensures .counts, a .put-numbered .ensures .long, b .put-numbered2 .ensures .counts, b .put-numbered2 .ensures .long, capped 20 (s .args .offset), capped 20 (b .before .number .result))
 
 same-length : tie.Need-same-length
 same-length c = search needs
@@ -50,7 +47,10 @@ returns c =
     let e = c .before .before in
     let b = e .before .before .before .before .before in
     let a = b .before .before .before .before .before .before in
-    rw (← (b .before .number .ensures)) (then (a .put-numbered .ensures) (then (b .put-numbered2 .ensures) (e .put .ensures)))
+    let s = a .before .before .before .before in (
+      rw (← (b .before .number .ensures)) (then (a .put-numbered .ensures) (then (b .put-numbered2 .ensures) (e .put .ensures))),
+      omega (arith, a .put-numbered .ensures .counts, b .put-numbered2 .ensures .counts, e .put .ensures .counts, capped 20 (s .args .offset), capped 20 (b .before .number .result)),
+    )
 
 pub stop-spec : {M : Type 1} → statement M
 stop-spec =

@@ -1,7 +1,7 @@
--- `transcript::lines::taps` meets its contract: the texts that are put one after the other are those of the line, and the room for the line is room for each of them.
+-- `transcript::lines::taps` meets its contract: the texts that are put one after the other are those of the line, and a number has no more than twenty digits.
 use borrow.Author.Needs.{needs}
 use native.Mathlib.Omega.{arith}
-use Rattle.transcript.proofs.Rooms.{taps-long}
+use Rattle.transcript.proofs.Decimals.{capped}
 use Rattle.transcript.proofs.Texts.{then}
 use Rattle.transcript.proofs.lines.taps.Statement.{statement}
 use Rattle.transcript.proofs.lines.taps.Tie as tie
@@ -12,7 +12,7 @@ slice-aggregate-put-numbered c = search needs
 put-numbered-requires : tie.Need-put-numbered-requires
 put-numbered-requires c κs =
     let s = c .before .before .before in
-    omega (arith, s .pre, taps-long (s .args .limit))
+    omega (arith, s .pre, capped 20 (s .args .limit))
 
 slice-aggregate-put : tie.Need-slice-aggregate-put
 slice-aggregate-put c = search needs
@@ -21,7 +21,7 @@ put-requires : tie.Need-put-requires
 put-requires c κs =
     let n = c .before .before .before .before in
     let s = n .before .before .before .before in
-    omega (arith, s .pre, n .put-numbered .ensures .counts, n .put-numbered .ensures .long, taps-long (s .args .limit))
+    omega (arith, s .pre, n .put-numbered .ensures .counts, n .put-numbered .ensures .long, capped 20 (s .args .limit))
 
 same-length : tie.Need-same-length
 same-length c = search needs
@@ -29,7 +29,9 @@ same-length c = search needs
 returns : tie.Need-returns
 returns c =
     let e = c .before .before in
-    then (e .before .before .before .before .before .put-numbered .ensures) (e .put .ensures)
+    let n = e .before .before .before .before .before in
+    let s = n .before .before .before .before in
+    (then (n .put-numbered .ensures) (e .put .ensures), omega (arith, n .put-numbered .ensures .counts, e .put .ensures .counts, capped 20 (s .args .limit)))
 
 pub taps-spec : {M : Type 1} → statement M
 taps-spec =
