@@ -24,7 +24,7 @@ use Rattle.laws.proofs.Tests.{clash, refuted}
 use Rattle.history.proofs.Steps.{refusal-own}
 use Rattle.history.proofs.Soundness.{rising-among, struck-one, was-unmarked}
 use Rattle.layout.specs.declared.Held.{Held}
-use Rattle.layout.specs.Layout.{position}
+use Rattle.layout.specs.Layout.{rows, position}
 use Rattle.table.specs.declared.Found.{Found}
 use Rattle.table.specs.declared.Found.the-variants.{Nothing}
 use Rattle.table.specs.Marks.{Live}
@@ -33,7 +33,7 @@ use Rattle.table.proofs.Active.{live-among, not-among}
 use Rattle.stack.specs.declared.Low.{Low}
 use Rattle.stack.specs.Calls.{minimumOf, Looked}
 use Rattle.ranges.specs.Holding.{positionOf}
-use Rattle.ranges.proofs.Upkeep.{looked-minimum, released-holds}
+use Rattle.ranges.proofs.Upkeep.{looked-row, looked-minimum, released-holds}
 use Rattle.engine.specs.Keeping.{Keeps}
 use Rattle.engine.specs.Contracts.{Does}
 use Rattle.engine.specs.Private.{refusedWith, acceptedWith, Seeks}
@@ -82,21 +82,22 @@ module _ (s : Session) (w : List ℕ) (i : Position) (z : s .words ≡ 0 → ⊥
     due-none : (c : Command) → Names i c → ForEach s w (λ h first. refusal s (length w) (isActive h c) c ≡ 0)
     due-none c n h first _ t = due-to c n (isActive h c) ∙ ap (λ (b : Bool). cond b 0 11) (active-of c n h ∙ is-active h first (own-of c s w z o t))
 
-    -- the stack had no minimum: no history's words
-    pub query-lost : (b : Low) → Looked w g b → minimumOf b ≡ none → Does s (Query i) w w (refusedWith s NotActive)
-    query-lost b l f = inactive (Query i) a-query (λ h first _ t.
+    -- the stack had no minimum for a row that there is: no history's words
+    pub query-lost : (j : Held) → j .0 < rows w → (b : Low) → Looked w j b → minimumOf b ≡ none → Does s (Query i) w w (refusedWith s NotActive)
+    query-lost j m b l f = inactive (Query i) a-query (λ h first _ t.
         let k = own-of (Query i) s w z o t in
-        let x : none ≡ some (minimum (h .values) i) = sym f ∙ looked-minimum w (h .values) (h .active) i g b l (k .holds) live in
+        let x : none ≡ some (minimum (h .values) (positionOf w j)) = sym f ∙ looked-row w (h .values) (h .active) j b l (k .holds) m in
         absurd (let y : _≡_ {A = ℕ} 0 1 = cc in omega arith))
 
-    -- it had
-    pub query-done : (b : Low) (m : Minimum) → Looked w g b → minimumOf b ≡ some m → Does s (Query i) w w (record { reply = Lowest m; session = s })
-    query-done b m l f =
+    -- it had one for the mark's own row
+    pub query-done : (j : Held) → j .0 ≡ g .0 → (b : Low) (m : Minimum) → Looked w j b → minimumOf b ≡ some m → Does s (Query i) w w (record { reply = Lowest m; session = s })
+    query-done j own b m l f =
         does-accepted (Query i) s w true (λ _. q .possible g e) refl (due-to (Query i) a-query true)
         (record { counted = 0; found = m; tells = refl; session = refl; unaltered = refl })
         (λ h first y t.
         let k = own-of (Query i) s w z o t in
-        let x : some m ≡ some (minimum (h .values) i) = sym f ∙ looked-minimum w (h .values) (h .active) i g b l (k .holds) live in
+        let row : j ≡ g = λ y. record { 0 = own y } in
+        let x : some m ≡ some (minimum (h .values) i) = sym f ∙ looked-minimum w (h .values) (h .active) i g b (rw row at l) (k .holds) live in
         let d : m ≡ minimum (h .values) i = cc in
         (due-none (Query i) a-query h first y t, ap showing d, refl, k))
 

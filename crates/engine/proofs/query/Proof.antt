@@ -54,13 +54,14 @@ refuse-requires-4 c κs = search needs
 returns-4 : tie.Need-returns-4
 returns-4 c =
     let f = c .before .before .before .before .before in
+    let live = f .before .before .seek .ensures .sound _ (ap rowOf (f .found .given .1)) in
     rw (c .refuse4 .ensures)
-    (query-lost _ _ _ (omega arith) (omega arith) _ _ (f .before .before .seek .ensures) (ap rowOf (f .found .given .1)) _ (c .before .before .before .minimum-of .ensures) (ap minimumOf (c .before .enum-told2 .given .1)))
+    (query-lost _ _ _ (omega arith) (omega arith) _ _ (f .before .before .seek .ensures) (ap rowOf (f .found .given .1)) _ (omega (arith, live .row)) _ (c .before .before .before .minimum-of .ensures) (ap minimumOf (c .before .enum-told2 .given .1)))
 
 returns-5 : tie.Need-returns-5
 returns-5 c =
     let f = c .before .before .before .before .before in
-    query-done _ _ _ (omega arith) (omega arith) _ _ (f .before .before .seek .ensures) (ap rowOf (f .found .given .1)) _ _ (c .before .before .before .minimum-of .ensures) (ap minimumOf (c .before .low .given .1))
+    query-done _ _ _ (omega arith) (omega arith) _ _ (f .before .before .seek .ensures) (ap rowOf (f .found .given .1)) _ (omega arith) _ _ (c .before .before .before .minimum-of .ensures) (ap minimumOf (c .before .low .given .1))
 
 pub query-spec : {M : Type 1} → statement M
 query-spec =
