@@ -3,6 +3,7 @@
 -- clears its row's flag alone, so that the marks lose the one position, and the count with them.
 use mathlib.Core.Path.{_≡_, refl, sym, ap, _∙_}
 use mathlib.Core.List.{List, [], _∷_}
+use mathlib.Core.Option.{none, some}
 use mathlib.Core.Bool.{Bool, true, false, cond, false≢true}
 use Prim.Native.Nat.{ℕ, _+_, _*_, _-_, _<_, _≤_}
 use native.Mathlib.Omega.{arith}
@@ -23,17 +24,16 @@ use Rattle.laws.proofs.Tests.{clash, refuted}
 use Rattle.history.proofs.Steps.{refusal-own}
 use Rattle.history.proofs.Soundness.{rising-among, struck-one, was-unmarked}
 use Rattle.layout.specs.declared.Held.{Held}
-use Rattle.layout.specs.Layout.{position}
+use Rattle.layout.specs.Layout.{rows, position}
 use Rattle.table.specs.declared.Found.{Found}
-use Rattle.table.specs.declared.Found.the-variants as found
+use Rattle.table.specs.declared.Found.the-variants.{Nothing}
 use Rattle.table.specs.Marks.{Live}
-use Rattle.table.specs.Calls.{Sought, Released}
+use Rattle.table.specs.Calls.{rowOf, Sought, Released}
 use Rattle.table.proofs.Active.{live-among, not-among}
 use Rattle.stack.specs.declared.Low.{Low}
-use Rattle.stack.specs.declared.Low.the-variants as low
-use Rattle.stack.specs.Calls.{Looked}
+use Rattle.stack.specs.Calls.{minimumOf, Looked}
 use Rattle.ranges.specs.Holding.{positionOf}
-use Rattle.ranges.proofs.Upkeep.{looked-minimum, released-holds}
+use Rattle.ranges.proofs.Upkeep.{looked-row, looked-minimum, released-holds}
 use Rattle.engine.specs.Keeping.{Keeps}
 use Rattle.engine.specs.Contracts.{Does}
 use Rattle.engine.specs.Private.{refusedWith, acceptedWith, Seeks}
@@ -62,7 +62,7 @@ module _ (s : Session) (w : List ℕ) (i : Position) (z : s .words ≡ 0 → ⊥
       (λ h first q r. due-to c n (isActive h c) ∙ ap (λ (b : Bool). cond b 0 11) (active-of c n h ∙ f h first q r))
 
   -- the search found nothing
-  pub asked-nothing : (c : Command) → Names i c → (r : Found) → Seeks s w i r → r ≡ found.Nothing → Does s c w w (refusedWith s NotActive)
+  pub asked-nothing : (c : Command) → Names i c → (r : Found) → Seeks s w i r → rowOf r ≡ none → Does s c w w (refusedWith s NotActive)
   asked-nothing c n r q e = inactive c n (λ h first y t.
       let k = own-of c s w z o t in
       let p : s .present .0 ≡ length (h .values) = ap (λ (x : Session). x .present .0) (t .session) in
@@ -71,7 +71,7 @@ module _ (s : Session) (w : List ℕ) (i : Position) (z : s .words ≡ 0 → ⊥
       clash (ap (among i) (k .holds .marks) ∙ a) (q .complete e (k .holds .linked) (m .0) (omega (arith, p, m .1)))))
 
   -- the search found row g
-  module _ (g : Held) (r : Found) (q : Seeks s w i r) (e : r ≡ found.At g) where
+  module _ (g : Held) (r : Found) (q : Seeks s w i r) (e : rowOf r ≡ some g) where
     live : Live w i g
     live = q .sound g e
 
@@ -82,32 +82,33 @@ module _ (s : Session) (w : List ℕ) (i : Position) (z : s .words ≡ 0 → ⊥
     due-none : (c : Command) → Names i c → ForEach s w (λ h first. refusal s (length w) (isActive h c) c ≡ 0)
     due-none c n h first _ t = due-to c n (isActive h c) ∙ ap (λ (b : Bool). cond b 0 11) (active-of c n h ∙ is-active h first (own-of c s w z o t))
 
-    -- the stack had no minimum: no history's words
-    pub query-lost : (b : Low) → Looked w g b → b ≡ low.Nothing → Does s (Query i) w w (refusedWith s NotActive)
-    query-lost b l f = inactive (Query i) a-query (λ h first _ t.
+    -- the stack had no minimum for a row that there is: no history's words
+    pub query-lost : (j : Held) → j .0 < rows w → (b : Low) → Looked w j b → minimumOf b ≡ none → Does s (Query i) w w (refusedWith s NotActive)
+    query-lost j m b l f = inactive (Query i) a-query (λ h first _ t.
         let k = own-of (Query i) s w z o t in
-        let x : low.Nothing ≡ low.At (minimum (h .values) i) = sym f ∙ looked-minimum w (h .values) (h .active) i g b l (k .holds) live in
+        let x : none ≡ some (minimum (h .values) (positionOf w j)) = sym f ∙ looked-row w (h .values) (h .active) j b l (k .holds) m in
         absurd (let y : _≡_ {A = ℕ} 0 1 = cc in omega arith))
 
-    -- it had
-    pub query-done : (b : Low) (m : Minimum) → Looked w g b → b ≡ low.At m → Does s (Query i) w w (record { reply = Lowest m; session = s })
-    query-done b m l f =
+    -- it had one for the mark's own row
+    pub query-done : (j : Held) → j .0 ≡ g .0 → (b : Low) (m : Minimum) → Looked w j b → minimumOf b ≡ some m → Does s (Query i) w w (record { reply = Lowest m; session = s })
+    query-done j own b m l f =
         does-accepted (Query i) s w true (λ _. q .possible g e) refl (due-to (Query i) a-query true)
         (record { counted = 0; found = m; tells = refl; session = refl; unaltered = refl })
         (λ h first y t.
         let k = own-of (Query i) s w z o t in
-        let x : low.At m ≡ low.At (minimum (h .values) i) = sym f ∙ looked-minimum w (h .values) (h .active) i g b l (k .holds) live in
+        let row : j ≡ g = λ y. record { 0 = own y } in
+        let x : some m ≡ some (minimum (h .values) i) = sym f ∙ looked-minimum w (h .values) (h .active) i g b (rw row at l) (k .holds) live in
         let d : m ≡ minimum (h .values) i = cc in
         (due-none (Query i) a-query h first y t, ap showing d, refl, k))
 
     -- a count of no active marks: no history's session
     pub close-lost : s .active ≡ 0 → Does s (Close i) w w (refusedWith s NotActive)
     close-lost f = inactive (Close i) a-close (λ h first _ t.
-        absurd (none (h .active) (sym (ap (λ (x : Session). x .active) (t .session)) ∙ f) (is-active h first (own-of (Close i) s w z o t))))
+        absurd (empty (h .active) (sym (ap (λ (x : Session). x .active) (t .session)) ∙ f) (is-active h first (own-of (Close i) s w z o t))))
       where
-        none : (ps : List Position) → length ps ≡ 0 → among i ps ≡ true → ⊥
-        none [] l a = let y : _≡_ {A = ℕ} 0 1 = cc in omega arith
-        none (p ∷ ps) l a = omega arith
+        empty : (ps : List Position) → length ps ≡ 0 → among i ps ≡ true → ⊥
+        empty [] l a = let y : _≡_ {A = ℕ} 0 1 = cc in omega arith
+        empty (p ∷ ps) l a = omega arith
 
     -- the row is closed
     module _ (after : List ℕ) (c : Released w after g) (f : s .active ≡ 0 → ⊥) where
@@ -138,7 +139,7 @@ module _ (s : Session) (w : List ℕ) (i : Position) (z : s .words ≡ 0 → ⊥
           ))
 
 -- the ways out of a search: a position that no mark can have, and what the table finds
-pub seeks-none : (s : Session) (w : List ℕ) (i : Position) → (0 < i .0 → i .0 ≤ s .present .0 → ⊥) → Seeks s w i found.Nothing
+pub seeks-none : (s : Session) (w : List ℕ) (i : Position) → (0 < i .0 → i .0 ≤ s .present .0 → ⊥) → Seeks s w i Nothing
 seeks-none s w i n = record {
   sound = λ g e. absurd (let y : _≡_ {A = ℕ} 0 1 = cc in omega arith);
   possible = λ g e. absurd (let y : _≡_ {A = ℕ} 0 1 = cc in omega arith);

@@ -1,6 +1,6 @@
 -- The two ways out of an opening. An area too short is left as it is, and the session is unopened. In another the table is emptied, so that the words hold the empty history;
 -- its 62 rows end at word 512, which is where the words of an opening end that may be written.
-use mathlib.Core.Path.{_≡_, refl, ap}
+use mathlib.Core.Path.{_≡_, refl}
 use mathlib.Core.List.{List}
 use Prim.Native.Nat.{ℕ, _<_, _≤_}
 use native.Mathlib.Omega.{arith}
@@ -28,12 +28,12 @@ open-refused w l = record {
 }
 
 -- else the words hold the empty history
-pub open-done : (w v : List ℕ) (k : ℕ) → 576 ≤ length w → k ≡ limitOf (length w) → Cleared w v 62
-    → Opens w v (record { reply = Accepted; session = sessionOf (blank (length w) k) })
-open-done w v k l e q = record {
+pub open-done : (w v : List ℕ) (n k : ℕ) → 576 ≤ length w → n ≡ length w → k ≡ limitOf (length w) → Cleared w v 62
+    → Opens w v (record { reply = Accepted; session = sessionOf (blank n k) })
+open-done w v n k l o e q = record {
   long = q .long;
   tells = rw (opening-accepted (length w) l);
-  represents = rw (opening-accepted (length w) l) (record { session = ap (λ (n : ℕ). sessionOf (blank (length w) n)) e; own = λ z o. keeps });
+  represents = rw (opening-accepted (length w) l) (record { session = rw (o, e); own = λ z _. keeps });
   rest = rest;
   refused = λ m. absurd (omega arith);
 }

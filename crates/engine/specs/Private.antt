@@ -2,6 +2,7 @@
 use mathlib.Core.Path.{_≡_}
 use mathlib.Core.Bool.{false}
 use mathlib.Core.List.{List}
+use mathlib.Core.Option.{none, some}
 use Prim.Native.Nat.{ℕ, _<_, _≤_}
 use lib.IntN.{ℤ}
 use Rattle.history.specs.declared.Position.{Position}
@@ -13,8 +14,8 @@ use Rattle.history.specs.declared.Reply.the-variants.{Accepted, Refused}
 use Rattle.history.specs.Histories.{among}
 use Rattle.layout.specs.declared.Held.{Held}
 use Rattle.table.specs.declared.Found.{Found}
-use Rattle.table.specs.declared.Found.the-variants.{At, Nothing}
 use Rattle.table.specs.Marks.{Linked, activeIn, Live}
+use Rattle.table.specs.Calls.{rowOf}
 
 -- `refuse`: the session comes back equal
 abbrev pub refusedWith : Session → Refusal → Answer
@@ -29,6 +30,6 @@ acceptedWith s present last active standing = record {
 
 -- `seek`: a search for an active mark at position i; none is found at 0 or after the present position
 pub record Seeks (s : Session) (w : List ℕ) (i : Position) (r : Found) : Type 0 where
-  pub sound : (g : Held) → r ≡ At g → Live w i g
-  pub possible : (g : Held) → r ≡ At g → (0 < i .0) × (i .0 ≤ s .present .0)
-  pub complete : r ≡ Nothing → Linked w → 0 < i .0 → i .0 ≤ s .present .0 → among i (activeIn w) ≡ false
+  pub sound : (g : Held) → rowOf r ≡ some g → Live w i g
+  pub possible : (g : Held) → rowOf r ≡ some g → (0 < i .0) × (i .0 ≤ s .present .0)
+  pub complete : rowOf r ≡ none → Linked w → 0 < i .0 → i .0 ≤ s .present .0 → among i (activeIn w) ≡ false

@@ -39,7 +39,7 @@ fn shared_minimum() {
 // at most are active together: the words from 512 + 64 * 2 on keep the pattern.
 fn rebuilds() {
     let mut area = [0u64; 262656];
-    lent::fill(&mut area);
+    compare::fill(&mut area);
     let s = call::open(&mut area);
     let s = script::run(s, &mut area, b"V9 M V8 M V3 C1");
     let s = rounds::play(s, &mut area, 5, 10000);

@@ -8,7 +8,7 @@ use crate::script;
 // An opening of the first n words of an area that holds the pattern: the session, and how many words of the whole area, from an index on,
 // it changed.
 fn opening(area: &mut [u64; 262720], n: usize, from: usize) {
-    lent::fill(area);
+    compare::fill(area);
     let s = call::open_first(area, n);
     print::session(s);
     lent::print_changed(area, from);

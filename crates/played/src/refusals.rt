@@ -1,51 +1,18 @@
 // A case of each refusal of a command, 4 to 11: a refused command changes no word and nothing in the session.
 use crate::call;
-use crate::lent;
 use crate::print;
 use crate::script;
 use history::Position;
 use history::Session;
 use history::Standing;
 
-fn standing_number(s: Standing) -> u8 {
-    match s {
-        Standing::None => 0,
-        Standing::Unmarked => 1,
-        Standing::Marked => 2,
-        Standing::Closed => 3,
-    }
-}
-
-fn is_same(a: Session, b: Session) -> bool {
-    if a.words != b.words {
-        return false;
-    }
-    if a.limit != b.limit {
-        return false;
-    }
-    let p = a.present;
-    let q = b.present;
-    if p.0 != q.0 {
-        return false;
-    }
-    if a.last != b.last {
-        return false;
-    }
-    if a.active != b.active {
-        return false;
-    }
-    let before = a.standing;
-    let after = b.standing;
-    standing_number(before) == standing_number(after)
-}
-
 // A refused command, lent the first n words: its reply, how many words of the area it changed, and whether it changed the session.
 fn refused(s: Session, area: &mut [u64; 577], n: usize, script: &[u8]) {
     let before = *area;
     let after = script::run_first(s, area, n, script);
-    print::number(lent::differing(&before, area) as u64);
+    print::number(compare::differing(&before, area) as u64);
     print::text(b" words changed, session ");
-    if is_same(s, after) {
+    if compare::is_same(s, after) {
         print::text(b"equal\n");
     } else {
         print::text(b"changed\n");
@@ -98,7 +65,7 @@ fn unopened(area: &mut [u64; 577]) {
 
 pub fn sequences() {
     let mut area = [0u64; 577];
-    lent::fill(&mut area);
+    compare::fill(&mut area);
     let s = call::open_first(&mut area, 576);
     let s = before_full(s, &mut area);
     from_full(s, &mut area);

@@ -1,7 +1,7 @@
 // Rounds of a Value, a Mark and a Close of that position.
 ghost use Prim.Native.Nat.{_≤_};
+ghost use Rattle.played.specs.Rounds.{Rounded};
 use crate::print;
-use history::Reply;
 use history::Session;
 
 // A session, with how many of the commands that led to it were accepted.
@@ -10,18 +10,9 @@ struct Played {
     accepted: u64,
 }
 
-// 1 for an acceptance, 0 for a refusal.
-fn accepted(reply: Reply) -> u64
-    ensures { λ r. ⌜ r ≤ 1 ⌝ }
-{
-    if history::reply_number(reply) == 0 {
-        return 1;
-    }
-    0
-}
-
+// A round, and how many of its three commands were accepted.
 fn round(s: Session, area: &mut [u64], v: i32) -> Played
-    ensures { λ r. ⌜ r .accepted ≤ 3 ⌝ }
+    ensures { λ r. ⌜ Rounded s v (now (area .entry)) (now (area .exit)) (r .session) (r .accepted) × (r .accepted ≤ 3) ⌝ }
 {
     let valued = engine::value(s, area, v);
     let marked = engine::mark(valued.session, area);
@@ -33,7 +24,7 @@ fn round(s: Session, area: &mut [u64], v: i32) -> Played
     let session = closed.session;
     Played {
         session,
-        accepted: accepted(first) + accepted(second) + accepted(third),
+        accepted: compare::accepted(first) + compare::accepted(second) + compare::accepted(third),
     }
 }
 

@@ -1,6 +1,7 @@
 -- What the words hold after an opening, a value and a close, and what a query reads off them.
 use mathlib.Core.Path.{_≡_, ap, _∙_}
 use mathlib.Core.List.{List, [], _∷_, _++_}
+use mathlib.Core.Option.{some}
 use Prim.Native.Nat.{ℕ, _+_, _*_, _<_}
 use native.Mathlib.Omega.{arith}
 use lib.IntN.{ℤ}
@@ -16,8 +17,7 @@ use Rattle.table.specs.Marks.{Live}
 use Rattle.table.specs.Calls.{Released, Cleared}
 use Rattle.table.proofs.Stays.{Apart, linked-apart, active-apart}
 use Rattle.stack.specs.declared.Low.{Low}
-use Rattle.stack.specs.declared.Low.the-variants.{At}
-use Rattle.stack.specs.Calls.{Lowered, Looked}
+use Rattle.stack.specs.Calls.{Lowered, minimumOf, Looked}
 use Rattle.stack.proofs.Alike.{Alike, stacked-same, rests-same}
 use Rattle.ranges.specs.Holding.{Holds, positionOf}
 
@@ -100,11 +100,16 @@ released-holds w v values active g q k l =
     stack : Alike w v (height w)
     stack = record { words = λ t l j a b. q .kept (16 + 8 * t .0 + j) (λ e. omega arith) }
 
--- what a query reads is the history's minimum, which stands at a position
+-- what is read for a row is the minimum of its position, which stands at a position
+pub looked-row : (w : List ℕ) (values : List ℤ) (active : List Position) (h : Held) (r : Low) → Looked w h r → Holds w values active → h .0 < rows w
+    → minimumOf r ≡ some (minimum values (positionOf w h))
+looked-row w values active h r q k l =
+    let d = minimum-least values (positionOf w h) (k .after h l) (k .before h l) in
+    q .found (rows w) (k .stacked) l (minimum values (positionOf w h)) (k .minima h l) (omega (arith, d .to, k .short))
+
+-- what a query reads is the minimum of the mark's position
 pub looked-minimum : (w : List ℕ) (values : List ℤ) (active : List Position) (p : Position) (h : Held) (r : Low) → Looked w h r → Holds w values active
-    → Live w p h → r ≡ At (minimum values p)
+    → Live w p h → minimumOf r ≡ some (minimum values p)
 looked-minimum w values active p h r q k l =
     let e : positionOf w h ≡ p = λ i. record { 0 = l .here i } in
-    let d = minimum-least values (positionOf w h) (k .after h (l .row)) (k .before h (l .row)) in
-    q .found (rows w) (k .stacked) (l .row) (minimum values (positionOf w h)) (k .minima h (l .row)) (omega (arith, d .to, k .short))
-    ∙ ap (λ (i : Position). At (minimum values i)) e
+    looked-row w values active h r q k (l .row) ∙ ap (λ (i : Position). some (minimum values i)) e

@@ -1,6 +1,7 @@
 -- What a look at the place whose run has a row says of the row's minimum: the stack has only one, and it is that place's entry.
 use mathlib.Core.Path.{_≡_, refl, ap, _∙_}
 use mathlib.Core.List.{List}
+use mathlib.Core.Option.{some}
 use Prim.Native.Nat.{ℕ, _<_, _≤_}
 use native.Mathlib.Omega.{arith}
 use lib.IntN.{ℤ}
@@ -24,7 +25,7 @@ module _ {w : List ℕ} {h : Held} {p : Place} (s : Located w h p) where
 
   -- the entry is the answer
   pub seen : {v : ℤ} → v ≡ least w p → Looked w h (At (standsAt v (record { 0 = leastAt w p })))
-  seen e = record { found = λ n k l m x f. ap At (ap (λ (v : ℤ). standsAt v (record { 0 = leastAt w p })) e ∙ its-own k l x) }
+  seen e = record { found = λ n k l m x f. ap some (ap (λ (v : ℤ). standsAt v (record { 0 = leastAt w p })) e ∙ its-own k l x) }
 
   -- an entry that no position of the stream has is no answer to any question
   pub unseen : (r : Low) → 4294967296 ≤ leastAt w p → Looked w h r

@@ -2,6 +2,7 @@
 use mathlib.Core.Path.{_≡_}
 use mathlib.Core.Bool.{Bool, true, false}
 use mathlib.Core.List.{List}
+use mathlib.Core.Option.{Option, none, some}
 use Prim.Native.Nat.{ℕ, _+_, _*_, _<_, _≤_}
 use lib.ListN.{length, getD}
 use lib.IntN.{ℤ}
@@ -13,7 +14,7 @@ use Rattle.layout.specs.declared.Held.{Held}
 use Rattle.layout.specs.declared.Place.{Place}
 use Rattle.layout.specs.Layout.{rows, capacity, height, leastAt, Fits}
 use Rattle.stack.specs.declared.Low.{Low}
-use Rattle.stack.specs.declared.Low.the-variants.{At}
+use Rattle.stack.specs.declared.Low.the-variants.{At, Nothing}
 use Rattle.stack.specs.Entries.{Stacked, Covers, Rests, least, entry}
 
 -- word i is none of the stack's: neither its height nor part of an entry at one of the places given
@@ -61,6 +62,11 @@ pub record Topping (w : List ℕ) (p : Position) (r : Bool) : Type 0 where
 pub record Located (w : List ℕ) (h : Held) (r : Place) : Type 0 where
   pub covers : (n : ℕ) → Stacked w n → h .0 < n → Covers w r h
 
+-- the minimum that each case of a look's answer gives (document 01: "Where an answer is an enum, a definition gives this paper's number and values for each case of the enum")
+abbrev pub minimumOf : Low → Option Minimum
+minimumOf (At m) = some m
+minimumOf Nothing = none
+
 -- the minimum that the stack has for row h, where its position is one of the stream's; of words that are no stack, any or none
 pub record Looked (w : List ℕ) (h : Held) (r : Low) : Type 0 where
-  pub found : (n : ℕ) → Stacked w n → h .0 < n → (m : Minimum) → Rests w h m → m .place .0 < 4294967296 → r ≡ At m
+  pub found : (n : ℕ) → Stacked w n → h .0 < n → (m : Minimum) → Rests w h m → m .place .0 < 4294967296 → minimumOf r ≡ some m

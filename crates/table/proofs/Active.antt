@@ -3,6 +3,7 @@ use mathlib.Core.Path.{_≡_, refl, sym, _∙_}
 use mathlib.Core.Bool.{Bool, true, false, or-true, false≢true}
 use mathlib.Core.List.{List}
 use mathlib.Core.Logic.{⊎-elim}
+use mathlib.Core.Option.{none, some}
 use Prim.Native.Nat.{ℕ, zero, suc, _<_, _≤_}
 use native.Mathlib.Decide.{ℕ-discrete}
 use native.Mathlib.Omega.{arith}
@@ -15,9 +16,8 @@ use Rattle.history.specs.Histories.{among}
 use Rattle.layout.specs.declared.Held.{Held}
 use Rattle.layout.specs.Layout.{rows, position, flag}
 use Rattle.table.specs.declared.Found.{Found}
-use Rattle.table.specs.declared.Found.the-variants.{At, Nothing}
 use Rattle.table.specs.Marks.{Linked, Live, activeBelow, activeIn}
-use Rattle.table.specs.Calls.{Sought}
+use Rattle.table.specs.Calls.{rowOf, Sought}
 use Rattle.table.proofs.Positions.{unless, length-unless, among-unless, among-append}
 
 -- whether row n is closed
@@ -68,11 +68,11 @@ module _ (w : List ℕ) (p : Position) where
   among-live e = let m = among-within (rows w) e in (m .0, record { row = m .1 .0; here = m .1 .1; live = m .1 .2 })
 
   -- where a search of a table finds nothing, the position is not among the active ones
-  pub not-among : (r : Found) → Sought w p r → Linked w → r ≡ Nothing → among p (activeIn w) ≡ false
+  pub not-among : (r : Found) → Sought w p r → Linked w → rowOf r ≡ none → among p (activeIn w) ≡ false
   not-among r s k e =
       refuted _ (λ a.
       let m = among-live a in
-      let found : Nothing ≡ At (m .0) = sym e ∙ s .complete k (m .0) (m .1) in
+      let found : none ≡ some (m .0) = sym e ∙ s .complete k (m .0) (m .1) in
       let z : _≡_ {A = ℕ} 0 1 = cc in
       omega arith)
 

@@ -1,6 +1,7 @@
 -- What a chain says of its first row, how a chain is carried to other words, and what makes a search's answer.
 use mathlib.Core.Path.{_≡_, ap}
 use mathlib.Core.List.{List}
+use mathlib.Core.Option.{some}
 use Prim.Native.Nat.{ℕ, _-_, _<_, _≤_}
 use native.Mathlib.Nat.{le-trans}
 use native.Mathlib.Omega.{arith}
@@ -55,5 +56,5 @@ nothing w p none = record {
 pub found : (w : List ℕ) (p : Position) (g : Held) → Live w p g → Sought w p (At g)
 found w p g l = record {
   sound = λ h q. let e : g ≡ h = cc in rw e at l;
-  complete = λ k h m. ap (λ (n : ℕ). At (record { 0 = n })) (same-row w p g h k l m);
+  complete = λ k h m. ap (λ (n : ℕ). some (record { 0 = n })) (same-row w p g h k l m);
 }

@@ -4,8 +4,7 @@ use mathlib.Core.List.{List, [], append-nil}
 use Prim.Native.Nat.{ℕ, zero, suc, _+_, _*_, _<_}
 use native.Mathlib.Decide.{ℕ-discrete}
 use native.Mathlib.Omega.{arith}
-use lib.ListN.{getD, set, length-set}
-use lib.Seq.{getD-set-same, getD-set-other}
+use lib.ListN.{length, getD}
 use borrow.Author.Tests.{eq-eqb}
 use Rattle.history.specs.declared.Position.{Position}
 use Rattle.history.specs.Histories.{without}
@@ -49,17 +48,16 @@ struck w v h s (suc n) rising l =
           rw (older, s .positions last, s .flags last (λ q. e (omega arith)), without-append, kept)
     ]
 
--- words whose flag of row h is set to 0 are the words with row h closed
-pub released : (w : List ℕ) (h : Held) → h .0 < rows w → Fits w → Released w (set w (16 + 8 * h .0 + 1) 0) h
-released w h l fits =
-    let v : List ℕ = set w (16 + 8 * h .0 + 1) 0 in
-    let kept : (i : ℕ) → (i ≡ 16 + 8 * h .0 + 1 → ⊥) → getD v i 0 ≡ getD w i 0 = λ i n. getD-set-other w (16 + 8 * h .0 + 1) i 0 0 n in
+-- words that differ in the flag of row h alone, which is 0, are the words with row h closed
+pub released : (w v : List ℕ) (h : Held) → length v ≡ length w → ((i : ℕ) → (i ≡ 16 + 8 * h .0 + 1 → ⊥) → getD v i 0 ≡ getD w i 0) → flag v h ≡ 0
+    → h .0 < rows w → Fits w → Released w v h
+released w v h long kept shut l fits =
     let positions : (g : Held) → position v g ≡ position w g = λ g. kept (16 + 8 * g .0) (λ e. omega arith) in
     let used : rows v ≡ rows w = kept 0 (λ e. omega arith) in
     record {
-      long = length-set w (16 + 8 * h .0 + 1) 0;
+      long = long;
       linked = linked-as w v (record {
-        long = length-set w (16 + 8 * h .0 + 1) 0;
+        long = long;
         used = used;
         size = kept 1 (λ e. omega arith);
         high = rw (used, kept 2 (λ e. omega arith)) (fits .high);
@@ -70,7 +68,7 @@ released w h l fits =
       active = λ k m. rw used (struck w v h (record {
         positions = positions;
         flags = λ g n. kept (16 + 8 * g .0 + 1) (λ e. n (omega arith));
-        closed = getD-set-same w (16 + 8 * h .0 + 1) 0 0 (omega arith);
+        closed = shut;
       }) (rows w) (k .rising) l);
       kept = kept;
       inside = λ i n. kept i (λ e. omega arith);

@@ -1,6 +1,7 @@
 -- What each function of the table promises, of any words; where they are a table, that they stay one and what it then holds.
 use mathlib.Core.Path.{_≡_}
 use mathlib.Core.List.{List, [], _∷_, _++_}
+use mathlib.Core.Option.{Option, none, some}
 use Prim.Native.Nat.{ℕ, _+_, _*_, _<_, _≤_}
 use lib.ListN.{length, getD}
 use Rattle.history.specs.declared.Position.{Position}
@@ -8,13 +9,18 @@ use Rattle.history.specs.Histories.{without}
 use Rattle.layout.specs.declared.Held.{Held}
 use Rattle.layout.specs.Layout.{rows, capacity, height, position, head, Room}
 use Rattle.table.specs.declared.Found.{Found}
-use Rattle.table.specs.declared.Found.the-variants.{At}
+use Rattle.table.specs.declared.Found.the-variants.{At, Nothing}
 use Rattle.table.specs.Marks.{Linked, activeIn, Live, Above}
+
+-- the row that each case of a search's answer gives (document 01: "Where an answer is an enum, a definition gives this paper's number and values for each case of the enum")
+abbrev pub rowOf : Found → Option Held
+rowOf (At h) = some h
+rowOf Nothing = none
 
 -- a search for position p: what it finds is an active mark at p, and in a table it finds each
 pub record Sought (w : List ℕ) (p : Position) (r : Found) : Type 0 where
-  pub sound : (h : Held) → r ≡ At h → Live w p h
-  pub complete : Linked w → (h : Held) → Live w p h → r ≡ At h
+  pub sound : (h : Held) → rowOf r ≡ some h → Live w p h
+  pub complete : Linked w → (h : Held) → Live w p h → rowOf r ≡ some h
 
 -- a table with a row to spare gets position p as its next row
 pub record Inserted (w v : List ℕ) (p : Position) : Type 0 where

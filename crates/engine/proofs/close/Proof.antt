@@ -7,6 +7,7 @@ use mir.Facts.{toZ-ofZ}
 use Rattle.history.specs.declared.Event.{Event}
 use Rattle.history.specs.declared.Transition.{Transition}
 use Rattle.history.specs.Standings.{transitionOf}
+use Rattle.table.specs.Calls.{rowOf}
 use Rattle.engine.proofs.Doing.{does-unopened, does-other, does-with}
 use Rattle.engine.proofs.Asked.{a-close, asked-nothing, close-lost, close-done}
 use Rattle.engine.proofs.close.Statement.{statement}
@@ -42,7 +43,7 @@ same-length c = search needs
 returns-3 : tie.Need-returns-3
 returns-3 c =
     rw (c .refuse3 .ensures)
-    (asked-nothing _ _ _ (omega arith) (omega arith) _ a-close _ (c .before .before .before .seek .ensures) (c .before .enum-told .given .1))
+    (asked-nothing _ _ _ (omega arith) (omega arith) _ a-close _ (c .before .before .before .seek .ensures) (ap rowOf (c .before .enum-told .given .1)))
 
 refuse-requires-4 : tie.Need-refuse-requires-4
 refuse-requires-4 c κs = search needs
@@ -54,7 +55,7 @@ returns-4 : tie.Need-returns-4
 returns-4 c =
     let f = c .before .before .before in
     rw (c .refuse4 .ensures)
-    (close-lost _ _ _ (omega arith) (omega arith) _ _ (f .before .before .seek .ensures) (f .found .given .1) (omega arith))
+    (close-lost _ _ _ (omega arith) (omega arith) _ _ (f .before .before .seek .ensures) (ap rowOf (f .found .given .1)) (omega arith))
 
 close-event-requires : tie.Need-close-event-requires
 close-event-requires c κs = search needs
@@ -83,7 +84,7 @@ returns-5 c =
     let k = i .before .before .before in
     does-with (c .accept .ensures) (toZ-ofZ (record { sfits = c .before .struct-told .given .1 .1 .1 .0 .1 })) (omega arith)
     (ap (λ (x : Transition). x .after) (t .transition-of .ensures ∙ ap (λ (x : Event). transitionOf x (k .args .s .standing)) (t .before .close-event .ensures)))
-    (close-done _ _ _ (omega (arith, i .before .if1 .left)) (omega (arith, i .if2 .left)) _ _ (f .before .before .seek .ensures) (f .found .given .1) _ (l .release .ensures) (omega arith))
+    (close-done _ _ _ (omega (arith, i .before .if1 .left)) (omega (arith, i .if2 .left)) _ _ (f .before .before .seek .ensures) (ap rowOf (f .found .given .1)) _ (l .release .ensures) (omega arith))
 
 pub close-spec : {M : Type 1} → statement M
 close-spec =

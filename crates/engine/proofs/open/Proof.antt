@@ -19,7 +19,7 @@ same-length : tie.Need-same-length
 same-length c = search needs
 
 returns-2 : tie.Need-returns-2
-returns-2 c = open-done _ _ _ (omega arith) (c .limit-of .ensures) (c .before .before .before .clear .ensures)
+returns-2 c = open-done _ _ _ _ (omega arith) (omega arith) (c .limit-of .ensures) (c .before .before .before .clear .ensures)
 
 pub open-spec : {M : Type 1} → statement M
 open-spec = tie.close (tie.spec returns clear-requires limit-of-requires same-length returns-2)

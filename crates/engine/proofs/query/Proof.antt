@@ -1,6 +1,9 @@
 -- `engine::query` meets its contract. The tests on the way are those of the refusals in checking order. A mark that is found has its row's minimum from the stack, which is the
 -- law `query-done`; a stack that has none for it is no history's. Nothing is written.
+use mathlib.Core.Path.{ap}
 use native.Mathlib.Omega.{arith}
+use Rattle.table.specs.Calls.{rowOf}
+use Rattle.stack.specs.Calls.{minimumOf}
 use Rattle.engine.proofs.Doing.{does-unopened, does-other}
 use Rattle.engine.proofs.Asked.{a-query, asked-nothing, query-lost, query-done}
 use borrow.Author.Needs.{needs}
@@ -34,7 +37,7 @@ refuse-requires-3 c κs = search needs
 returns-3 : tie.Need-returns-3
 returns-3 c =
     rw (c .refuse3 .ensures)
-    (asked-nothing _ _ _ (omega arith) (omega arith) _ a-query _ (c .before .before .before .seek .ensures) (c .before .enum-told .given .1))
+    (asked-nothing _ _ _ (omega arith) (omega arith) _ a-query _ (c .before .before .before .seek .ensures) (ap rowOf (c .before .enum-told .given .1)))
 
 minimum-of-requires : tie.Need-minimum-of-requires
 minimum-of-requires c κs = search needs
@@ -51,13 +54,14 @@ refuse-requires-4 c κs = search needs
 returns-4 : tie.Need-returns-4
 returns-4 c =
     let f = c .before .before .before .before .before in
+    let live = f .before .before .seek .ensures .sound _ (ap rowOf (f .found .given .1)) in
     rw (c .refuse4 .ensures)
-    (query-lost _ _ _ (omega arith) (omega arith) _ _ (f .before .before .seek .ensures) (f .found .given .1) _ (c .before .before .before .minimum-of .ensures) (c .before .enum-told2 .given .1))
+    (query-lost _ _ _ (omega arith) (omega arith) _ _ (f .before .before .seek .ensures) (ap rowOf (f .found .given .1)) _ (omega (arith, live .row)) _ (c .before .before .before .minimum-of .ensures) (ap minimumOf (c .before .enum-told2 .given .1)))
 
 returns-5 : tie.Need-returns-5
 returns-5 c =
     let f = c .before .before .before .before .before in
-    query-done _ _ _ (omega arith) (omega arith) _ _ (f .before .before .seek .ensures) (f .found .given .1) _ _ (c .before .before .before .minimum-of .ensures) (c .before .low .given .1)
+    query-done _ _ _ (omega arith) (omega arith) _ _ (f .before .before .seek .ensures) (ap rowOf (f .found .given .1)) _ (omega arith) _ _ (c .before .before .before .minimum-of .ensures) (ap minimumOf (c .before .low .given .1))
 
 pub query-spec : {M : Type 1} → statement M
 query-spec =

@@ -29,7 +29,7 @@ returns : tie.Need-returns
 returns c =
     let o = c .before .before .before .before .before .before in
     let r = o .before .before .before in
-    lowered _ _ _ _ (r .read-header .ensures) (over o) _ (c .before .before .before .before .if1 .taken) (c .before .before .set-top .ensures)
+    lowered _ _ _ _ (r .read-header .ensures) (over o) _ (omega (arith, over o .within, c .before .before .before .before .if1 .taken)) (c .before .before .set-top .ensures)
 
 same-length-2 : tie.Need-same-length-2
 same-length-2 c = search needs
@@ -37,7 +37,7 @@ same-length-2 c = search needs
 returns-2 : tie.Need-returns-2
 returns-2 c =
     let o = c .before .before in
-    unmoved _ _ _ _ (o .before .before .before .read-header .ensures) (over o) (c .if1 .left)
+    unmoved _ _ _ _ (o .before .before .before .read-header .ensures) (over o) (omega (arith, c .if1 .left))
 
 pub lower-spec : {M : Type 1} → statement M
 lower-spec =

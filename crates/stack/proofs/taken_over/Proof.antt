@@ -72,7 +72,7 @@ loop-less c = search needs
 
 loop-again : tie.Need-loop-again Inv-loop μ-loop
 loop-again c =
-    one-more (c .before .before .before .before .before .loop .inv) (c .before .before .before .before .loop-test .taken)
+    one-more (c .before .before .before .before .before .loop .inv) (omega (arith, c .before .before .before .before .loop-test .taken))
     (asked (c .before) ∙ c .if1 .taken)
 
 returns : tie.Need-returns Inv-loop μ-loop

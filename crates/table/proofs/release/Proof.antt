@@ -1,5 +1,6 @@
 -- `table::release` meets its contract: the header that was read is the words' own where it has a row, and a table's always has.
 use native.Mathlib.Omega.{arith}
+use lib.Seq.{getD-set-same, getD-set-other}
 use Rattle.table.proofs.Reading.{read}
 use Rattle.table.proofs.Struck.{released, unreleased}
 use borrow.Author.Needs.{needs}
@@ -28,7 +29,8 @@ same-length : tie.Need-same-length
 same-length c = search needs
 
 returns : tie.Need-returns
-returns c = let r = read (c .before .before .read-header .ensures) (omega arith) in released _ _ (omega arith) (r .fits)
+returns c = let r = read (c .before .before .read-header .ensures) (omega arith) in
+    released _ _ _ (search needs) (λ i n. simp getD-set-other) (simp (getD-set-same, slice-write-area c)) (omega arith) (r .fits)
 
 same-length-2 : tie.Need-same-length-2
 same-length-2 c = search needs
