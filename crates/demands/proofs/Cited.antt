@@ -1,5 +1,5 @@
--- THE THEOREMS that the promises rest on, each cited under its statement, so that none can be dropped, renamed or weakened to another statement unnoticed; and that the run of
--- `one_run` meets the hypotheses of the demands as they are stated of the five functions.
+-- THE THEOREMS that the promises rest on, each cited under its statement, so that none can be dropped, renamed or weakened to another statement unnoticed; and that the runs of
+-- `one_run` and `refused_run` meet the hypotheses of the demands as they are stated of the five functions.
 use mathlib.Core.Path.{_≡_}
 use mathlib.Core.List.{List, [], _∷_}
 use mathlib.Core.Logic.{⊎-elim}
@@ -32,7 +32,7 @@ use Rattle.engine.proofs.Theorem as theorem
 use Rattle.engine.proofs.Tied as tied
 use Rattle.engine.proofs.Tied.{Opened, Called}
 use Rattle.engine.proofs.Examples as given
-use Rattle.demands.specs.Witness.{RunExists}
+use Rattle.demands.specs.Witness.{Line, RunExists}
 
 -- DEMANDS 1 AND 3, of the five functions; demand 2 is part of 3
 demand-1 : Demand1 Opened Called
@@ -101,9 +101,9 @@ made-called n s words (c ∷ cs) m =
     let a = m .1 in
     (m .0, (a .0, called s (c .command) (c .lent) (c .left) (a .0) (a .1), a .2, a .3), made-called n (c .session) _ cs (m .2))
 
--- so the hypotheses of `demand-3` are met by the run
-pub run-called : (r : Session) → RunExists Opens Does r → RunExists Opened Called r
-run-called r x = record {
+-- so the hypotheses of `demand-3` are met by the runs
+pub run-called : (n : ℕ) (ls : List Line) (r : Session) → RunExists n ls Opens Does r → RunExists n ls Opened Called r
+run-called n ls r x = record {
   first = x .first;
   left = x .left;
   o = x .o;
@@ -113,5 +113,4 @@ run-called r x = record {
   long = x .long;
   plays = x .plays;
   returned = x .returned;
-  session = x .session;
 }

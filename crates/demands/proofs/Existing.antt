@@ -1,4 +1,4 @@
--- The run exists: its calls meet the hypotheses of demand 3, so that by the engine's list theorem each was told what the bookkeeper tells, and that computes to the lines.
+-- The runs exist: their calls meet the hypotheses of demand 3, so that by the engine's list theorem each was told what the bookkeeper tells, and that computes to the lines.
 use mathlib.Core.Path.{_≡_, refl, sym, ap, _∙_}
 use mathlib.Core.List.{List, [], _∷_}
 use Prim.Native.Nat.{ℕ}
@@ -15,7 +15,7 @@ use Rattle.runs.proofs.Lists.{each-call}
 use Rattle.engine.specs.Demand.{Answered, OpeningAgrees, Meets}
 use Rattle.engine.specs.Contracts.{Opens, Does}
 use Rattle.engine.proofs.Theorem.{by-contract}
-use Rattle.demands.specs.Witness.{Line, linesOf, asked, lines, sessionLeft, RunExists}
+use Rattle.demands.specs.Witness.{Line, linesOf, asked, lines, RunExists}
 use Rattle.demands.specs.Private.{askedOf, Commanded}
 
 -- what the bookkeeper makes of commands and lengths: the lines, and the paper after them
@@ -27,13 +27,10 @@ abbrev paperAfter : History → List (Command × ℕ) → History
 paperAfter h [] = h
 paperAfter h ((k, n) ∷ asks) = paperAfter (model .step h n k) asks
 
--- the lines of the run are the bookkeeper's, and so is the session after them
-lines-computed : worked (opening 640 .history) (asked lines) ≡ lines
+-- the lines of the run are the bookkeeper's
+pub lines-computed : worked (opening 640 .history) (asked lines) ≡ lines
 unfolding lowest
 lines-computed = refl
-
-session-computed : sessionOf (paperAfter (opening 640 .history) (asked lines)) ≡ sessionLeft
-session-computed = refl
 
 module _ (n : ℕ) (first : List ℕ) where
   -- calls that agree have the lines that the bookkeeper makes of what they were asked
@@ -49,30 +46,36 @@ module _ (n : ℕ) (first : List ℕ) where
   session-worked words h s [] e a = e
   session-worked words h s (c ∷ cs) e a = session-worked _ _ (c .session) cs (a .0 .session) (a .1)
 
-pub run-exists : {first left after : List ℕ} {o : Answer} {r : Session} → length first ≡ 640 → Opens first left o
-    → Commanded 640 (o .session) left after (asked lines) r → RunExists Opens Does r
-run-exists {first} {left} {o = o} {r = r} l p m = record {
-  first = first;
-  left = left;
-  o = o;
-  calls = m .calls;
-  opened = p;
-  made = made;
-  long = l;
-  plays = lines-worked 640 first left (opening 640 .history) (m .calls) agrees ∙ ap (worked (opening 640 .history)) (m .asked) ∙ lines-computed;
-  returned = m .returned;
-  session = sym (m .returned)
-      ∙ session-worked 640 first left (opening 640 .history) (o .session) (m .calls) (rw l at (demand .0 .session)) agrees
-      ∙ ap (λ (x : List (Command × ℕ)). sessionOf (paperAfter (opening 640 .history) x)) (m .asked)
-      ∙ session-computed;
-}
-  where
-    made : Made model (Answered Does) (opening (length first) .history .words) (o .session) left (m .calls)
-    made = rw l (m .made)
+module _ (n : ℕ) (ls : List Line) {first left after : List ℕ} {o : Answer} {r : Session} (l : length first ≡ n) (p : Opens first left o)
+    (m : Commanded (opening n .history .words) (o .session) left after (asked ls) r) where
+  abbrev start : History
+  start = opening n .history
 
-    demand : OpeningAgrees first left o × EachCall model (Meets (opening (length first) .history .words) first) (opening (length first) .history .words) left
-        (opening (length first) .history) (m .calls)
-    demand = by-contract first left o (m .calls) p made
+  made : Made model (Answered Does) (opening (length first) .history .words) (o .session) left (m .calls)
+  made = rw l (m .made)
 
-    agrees : AllAgree model 640 first left (opening 640 .history) (m .calls)
-    agrees = each-call model (Meets 640 first) _ (λ now h later c x. x .agrees) 640 left (opening 640 .history) (m .calls) (rw l at (demand .1))
+  demand : OpeningAgrees first left o × EachCall model (Meets (opening (length first) .history .words) first) (opening (length first) .history .words) left
+      (opening (length first) .history) (m .calls)
+  demand = by-contract first left o (m .calls) p made
+
+  agrees : AllAgree model (start .words) first left start (m .calls)
+  agrees = each-call model (Meets (start .words) first) _ (λ now h later c x. x .agrees) (start .words) left start (m .calls) (rw l at (demand .1))
+
+  -- A RUN EXISTS where an opening of n words was made and then calls whose lines the bookkeeper works out; and the session after it is the paper's
+  pub run-exists : worked start (asked ls) ≡ ls → RunExists n ls Opens Does r × (r ≡ sessionOf (paperAfter start (asked ls)))
+  run-exists w = (
+    record {
+      first = first;
+      left = left;
+      o = o;
+      calls = m .calls;
+      opened = p;
+      made = made;
+      long = l;
+      plays = lines-worked (start .words) first left start (m .calls) agrees ∙ ap (worked start) (m .asked) ∙ w;
+      returned = m .returned;
+    },
+    sym (m .returned)
+        ∙ session-worked (start .words) first left start (o .session) (m .calls) (rw l at (demand .0 .session)) agrees
+        ∙ ap (λ (x : List (Command × ℕ)). sessionOf (paperAfter start x)) (m .asked),
+  )

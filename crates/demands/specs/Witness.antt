@@ -1,4 +1,4 @@
--- A RUN THAT EXISTS: an opening and calls that meet the hypotheses of demand 3, which speaks of "every list of values, taps, queries and closes, refused ones included ..
+-- RUNS THAT EXIST: an opening and calls that meet the hypotheses of demand 3, which speaks of "every list of values, taps, queries and closes, refused ones included ..
 -- with any length lent at each command". So it speaks of something: each command is accepted here, refusals come, and calls are lent other lengths.
 use mathlib.Core.Path.{_≡_}
 use mathlib.Core.List.{List, [], _∷_, _++_}
@@ -77,16 +77,19 @@ lines = marking ++ (elsewhere ++ filling)
 abbrev pub sessionLeft : Session
 sessionLeft = record { words = 640; limit = 2; present = at 3; last = pos 4; active = 1; standing = Closed }
 
--- The run meets what demand 3 presupposes, where `opens` is known of the opening's function, and `says` of the commands' functions. It has the lines above, and the last of
--- its calls returned the session r
-pub record RunExists (opens : OpeningSays) (says : CommandSays) (r : Session) : Type 0 where
+-- THE CALLS OF A RUN AFTER A REFUSED OPENING, of 575 words. 4: "Any command, when the session is unopened"
+abbrev pub unopened : List Line
+unopened = (Value (pos 5), 575, numbered 4) ∷ (Mark, 640, numbered 4) ∷ []
+
+-- A run after an opening of n words meets what demand 3 presupposes, where `opens` is known of the opening's function, and `says` of the commands' functions. Its calls have
+-- the lines ls, and the last of them returned the session r
+pub record RunExists (n : ℕ) (ls : List Line) (opens : OpeningSays) (says : CommandSays) (r : Session) : Type 0 where
   pub first : List ℕ
   pub left : List ℕ
   pub o : Answer
   pub calls : List (Call model)
   pub opened : opens first left o
   pub made : Made model (Answered says) (opening (length first) .history .words) (o .session) left calls
-  pub long : length first ≡ 640
-  pub plays : linesOf calls ≡ lines
+  pub long : length first ≡ n
+  pub plays : linesOf calls ≡ ls
   pub returned : lastSession model (o .session) calls ≡ r
-  pub session : r ≡ sessionLeft

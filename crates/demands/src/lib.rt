@@ -1,11 +1,12 @@
 // A run that is really made, so that the theorems over all runs speak of something; and the theorems, cited (proofs/Cited).
-// Each call is lent the words that were opened, but for two in `elsewhere`, and has the session that the call before it returned.
+// Each call has the session that the last one returned, and is lent the words that were opened, but for two in `elsewhere`. A second run follows a refused opening.
 ghost use mathlib.Core.Path.{_≡_};
 ghost use mathlib.Core.List.{_++_};
 ghost use lib.ListN.{length};
+ghost use Rattle.history.specs.Histories.{sessionOf, blank};
 ghost use Rattle.engine.specs.Contracts.{Opens, Does};
 ghost use Rattle.demands.specs.Witness as Witness;
-ghost use Rattle.demands.specs.Witness.{asked, lines, RunExists};
+ghost use Rattle.demands.specs.Witness.{asked, lines, sessionLeft, unopened, RunExists};
 ghost use Rattle.demands.specs.Private.{Commanded};
 use history::Command;
 use history::Position;
@@ -53,10 +54,22 @@ fn marking(s: Session, area: &mut [u64], other: &mut [u64]) -> Session
 
 // The run, from its opening on.
 pub fn one_run() -> Session
-    ensures { λ r. ⌜ RunExists Opens Does r ⌝ }
+    ensures { λ r. ⌜ RunExists 640 lines Opens Does r × (r ≡ sessionLeft) ⌝ }
 {
     let mut area = [0u64; 640];
     let mut other = [0u64; 641];
     let opened = engine::open(&mut area);
     marking(opened.session, &mut area, &mut other)
+}
+
+// The run after a refused opening: the calls of `unopened`.
+pub fn refused_run() -> Session
+    ensures { λ r. ⌜ RunExists 575 unopened Opens Does r × (r ≡ sessionOf (blank 0 0)) ⌝ }
+{
+    let mut area = [0u64; 575];
+    let mut other = [0u64; 640];
+    let opened = engine::open(&mut area);
+    let value = engine::value(opened.session, &mut area, 5);
+    let mark = engine::mark(value.session, &mut other);
+    mark.session
 }

@@ -45,11 +45,11 @@ returns c =
     let value = query .before .before .before .before in
     let longer = value .before .before .before .before in
     let start = longer .before .before .before .before in
-    other-then (start .pre .1) (λ e. omega arith) (longer .value .ensures)
+    other-then (λ e. omega arith) (start .pre .1) (longer .value .ensures)
     (own-then (start .pre .0) (value .value2 .ensures)
     (λ l. own-then l (query .query .ensures)
     (λ l. own-then l (mark .mark .ensures)
-    (λ l. other-then refl (λ e. omega arith) (none .query2 .ensures) (rest .filling .ensures)))))
+    (λ l. other-then (λ e. omega arith) refl (none .query2 .ensures) (rest .filling .ensures)))))
 
 same-length : tie.Need-same-length
 same-length c = returns c .long

@@ -2,7 +2,8 @@
 use borrow.Author.Needs.{needs}
 use Prim.Native.Nat.{ℕ}
 use lib.ListN.{length-replicate}
-use Rattle.demands.proofs.Existing.{run-exists}
+use Rattle.demands.specs.Witness.{lines}
+use Rattle.demands.proofs.Existing.{lines-computed, run-exists}
 use Rattle.demands.proofs.one_run.Statement.{statement}
 use Rattle.demands.proofs.one_run.Tie as tie
 
@@ -22,7 +23,7 @@ marking-requires : tie.Need-marking-requires
 marking-requires c κs = search needs
 
 returns : tie.Need-returns
-returns c = run-exists (length-replicate {A = ℕ} 640 0) (c .before .before .before .before .before .before .«open» .ensures) (c .before .before .marking .ensures)
+returns c = run-exists 640 lines (length-replicate {A = ℕ} 640 0) (c .before .before .before .before .before .before .«open» .ensures) (c .before .before .marking .ensures) lines-computed
 
 pub one-run-spec : {M : Type 1} → statement M
 one-run-spec =
