@@ -1,0 +1,3 @@
+pub mod Calling
+pub mod Existing
+pub mod Cited
