@@ -18,7 +18,7 @@ use Rattle.history.specs.declared.Command.{Command}
 use Rattle.history.specs.declared.Command.the-variants.{Value, Mark, Query, Close}
 use Rattle.history.specs.declared.Event.{Event}
 use Rattle.history.specs.Minima.{minimum, Least}
-use Rattle.history.specs.Replies.{showing, markRefusal}
+use Rattle.history.specs.Replies.{numbered, showing, markRefusal}
 use Rattle.history.specs.Standings.{transitionOf}
 use Rattle.history.specs.Histories.{History, Stepped, sessionOf, among, isActive, accept, refusalOf, step}
 use Rattle.history.specs.Sessions.{countAfter, sessionAfter}
@@ -63,6 +63,12 @@ module _ (h : History) (n : ℕ) (z : h .words ≡ 0 → ⊥) (o : n ≡ h .word
   told-minimum i a =
       ap (λ (x : Stepped). x .tells)
       (step-accepted h n (Query i) (refusal-own (sessionOf h) n (isActive h (Query i)) (Query i) z o ∙ ap (λ (b : Bool). cond b 0 11) a))
+
+  -- and one of another position is shown nothing
+  pub told-inactive : (i : Position) → among i (h .active) ≡ false → step h n (Query i) .tells ≡ numbered 11
+  told-inactive i a =
+      ap (λ (x : Stepped). x .tells)
+      (step-refused h n (Query i) 11 (refusal-own (sessionOf h) n (isActive h (Query i)) (Query i) z o ∙ ap (λ (b : Bool). cond b 0 11) a) (λ x. omega arith))
 
 -- an active mark stands at a position, so its minimum is the least value since
 pub active-least : (h : History) (i : Position) → Sound h → among i (h .active) ≡ true → Least (h .values) i (minimum (h .values) i)

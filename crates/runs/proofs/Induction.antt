@@ -4,6 +4,7 @@
 use mathlib.Core.Path.{_≡_, refl, sym, _∙_}
 use mathlib.Core.Bool.{Bool, true, false, cond}
 use mathlib.Core.List.{List, [], _∷_}
+use mathlib.Core.Logic.{_⊎_, inl, inr}
 use Prim.Native.Nat.{ℕ}
 use native.Mathlib.Decide.{ℕ-discrete}
 use lib.ListN.{length}
@@ -21,6 +22,14 @@ own-length n lent e = elim (ℕ-discrete n 0) [
 -- and words of the opened length, which is not 0, are the start's
 pub own-lent : (n : ℕ) (lent : List ℕ) → (n ≡ 0 → ⊥) → length lent ≡ n → isOwn n lent ≡ true
 own-lent n lent z l = rw (ne-eqb n 0 z) (eq-eqb (length lent) n l)
+
+-- and no others are
+pub other-lent : (n : ℕ) (lent : List ℕ) → ((n ≡ 0) ⊎ (length lent ≡ n → ⊥)) → isOwn n lent ≡ false
+other-lent n lent (inl z) = rw (eq-eqb n 0 z)
+other-lent n lent (inr o) = elim (ℕ-discrete n 0) [
+  | yes z ↦ rw (eq-eqb n 0 z)
+  | no z ↦ rw (ne-eqb n 0 z) (ne-eqb (length lent) n o)
+]
 
 -- What one call does, of which `did` is known. `Sound` is what holds of every state that a start and commands lead to; `Keeps h first words`: the words keep the state h
 -- since the start on the words `first`
