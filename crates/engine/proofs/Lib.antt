@@ -6,4 +6,5 @@ pub mod Asked
 pub mod Instance
 pub mod Theorem
 pub mod Tied
+pub mod Plain
 pub mod Examples

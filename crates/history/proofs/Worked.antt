@@ -13,7 +13,7 @@ use Rattle.history.specs.declared.Command.the-variants.{Value}
 use Rattle.history.specs.declared.Refusal.{Refusal}
 use Rattle.history.specs.declared.Reply.the-variants.{Accepted, Lowest, Refused}
 use Rattle.history.specs.Minima.{lowest}
-use Rattle.history.specs.Replies.{numbered, accepted, numberOf, told}
+use Rattle.history.specs.Replies.{numbered, numberOf, told}
 use Rattle.history.specs.Histories.{History, Stepped, sessionOf, isActive, accept, step, model}
 use Rattle.history.specs.Examples.{AllWorked, examples, AllKept, pages, refusals}
 use Rattle.history.proofs.Steps.{refusal-own, refused, step-refused, step-accepted}

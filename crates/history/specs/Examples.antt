@@ -13,7 +13,7 @@ use Rattle.history.specs.declared.Command.{Command}
 use Rattle.history.specs.declared.Command.the-variants.{Value, Mark, Query, Close}
 use Rattle.history.specs.Minima.{standsAt}
 use Rattle.history.specs.declared.Refusal.{Refusal}
-use Rattle.history.specs.Replies.{Told, numbered, accepted, showing, numberOf}
+use Rattle.history.specs.Replies.{Told, numbered, accepted, showing}
 use Rattle.history.specs.Histories.{History, opening, model}
 use Rattle.runs.specs.Lists.{repliesOf}
 
