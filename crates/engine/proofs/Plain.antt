@@ -3,9 +3,9 @@
 use mathlib.Core.Path.{_≡_, refl, sym, ap, _∙_}
 use mathlib.Core.List.{List, [], _∷_, _++_}
 use mathlib.Core.Logic.{_⊎_, inl, inr}
-use Prim.Native.Nat.{ℕ, _+_, _*_, _≤_}
+use Prim.Native.Nat.{ℕ, _+_, _*_}
 use native.Mathlib.Omega.{arith}
-use lib.ListN.{length, getD}
+use lib.ListN.{length}
 use Rattle.history.specs.declared.Session.{Session}
 use Rattle.history.specs.declared.Command.{Command}
 use Rattle.history.specs.declared.Answer.{Answer}
@@ -13,9 +13,9 @@ use Rattle.history.specs.Replies.{Told, told}
 use Rattle.history.specs.Histories.{History, Stepped, sessionOf, opening, step, model}
 use Rattle.history.proofs.Steps.{step-words, opening-refused, opening-accepted}
 use Rattle.history.proofs.Following.{told-inactive}
-use Rattle.runs.specs.Runs.{Call, wordsAfter, Made}
+use Rattle.runs.specs.Runs.{AsLent, Call, wordsAfter, Made}
 use Rattle.runs.specs.Lists.{stateAfterAll, wordsAfterAll, lastSession}
-use Rattle.runs.proofs.Induction.{own-length, own-lent, other-lent}
+use Rattle.runs.proofs.Induction.{own-length, own-lent, other-lent, as-lent-at}
 use Rattle.runs.proofs.Lists.{made-more, last-call, state-more, run-words-more, session-more}
 use Rattle.engine.specs.Demand.{Answered, Meets}
 use Rattle.engine.specs.Consequences.{Reached, opened, ownWords, otherWords, OnPaper, Replied, EveryRun}
@@ -72,16 +72,16 @@ module _ {first words : List ℕ} {h : History} {s : Session} (g : Run first wor
   }
 
 -- what the demand says of the session and the words, written out
-on-paper : {first words : List ℕ} {h : History} {s : Session} → s ≡ sessionOf h → ((i : ℕ) → 512 + 64 * h .peak ≤ i → getD words i 0 ≡ getD first i 0)
-    → length words ≡ length first → OnPaper first words h s
-on-paper e a l = record {
+on-paper : {first words : List ℕ} {h : History} {s : Session} → s ≡ sessionOf h → AsLent (model .bound h) first words → length words ≡ length first
+    → OnPaper first words h s
+on-paper {first} {words} {h} e a l = record {
   wordsOpened = ap (λ (x : Session). x .words) e;
   limit = ap (λ (x : Session). x .limit) e;
   present = ap (λ (x : Session). x .present .0) e;
   last = ap (λ (x : Session). x .last) e;
   active = ap (λ (x : Session). x .active) e;
   standing = ap (λ (x : Session). x .standing) e;
-  rest = a;
+  rest = as-lent-at (512 + 64 * h .peak) first words a;
   long = l;
 }
 
