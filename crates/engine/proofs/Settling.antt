@@ -168,7 +168,7 @@ any-acceptance (Close i) s before after t a q z =
       ap (λ (y : Session). y .limit) (x .session),
       ap (λ (y : Session). y .present) (x .session),
       ap (λ (y : Session). y .last) (x .session),
+      ap (λ (y : Told). y .shown) (x .tells),
       (λ e. k ∙ ap (λ (b : Bool). transitionOf (cond b Event.CloseOfPresent Event.Other) (s .standing) .after) (eq-eqb (i .0) (s .present .0) e)),
       (λ e. k ∙ ap (λ (b : Bool). transitionOf (cond b Event.CloseOfPresent Event.Other) (s .standing) .after) (ne-eqb (i .0) (s .present .0) e)),
-      ap (λ (y : Told). y .shown) (x .tells),
     )

@@ -23,9 +23,9 @@ use Rattle.history.specs.Sessions.{sessionAfter}
 use Rattle.engine.specs.Demand.{OpeningSays, CommandSays}
 
 -- "In each refusal the session comes back equal .. and the area is untouched; .. no value or place is shown."
-pub record AfterRefusal (n : ℕ) (s : Session) (before after : List ℕ) (t : Session) (a : Told) : Type 0 where
+pub record AfterRefusal (n : ℕ) (from : Session) (before after : List ℕ) (to : Session) (a : Told) : Type 0 where
   pub tells : a ≡ numbered n
-  pub session : t ≡ s
+  pub session : to ≡ from
   pub words : after ≡ before
 
 -- what an acceptance shows: a minimum to a Query, and nothing to another command
@@ -120,13 +120,13 @@ AnyAcceptance Mark s lent left t a =
 AnyAcceptance (Query i) s lent left t a =
     (t ≡ s) × (left ≡ lent) × (m : Minimum) × (a .shown ≡ some m)
 AnyAcceptance (Close i) s lent left t a =
-    (t .words ≡ s .words) × (t .limit ≡ s .limit) × (t .present ≡ s .present) × (t .last ≡ s .last)
-    × (i .0 ≡ s .present .0 → t .standing ≡ Closed) × ((i .0 ≡ s .present .0 → ⊥) → t .standing ≡ s .standing) × (a .shown ≡ none)
+    (t .words ≡ s .words) × (t .limit ≡ s .limit) × (t .present ≡ s .present) × (t .last ≡ s .last) × (a .shown ≡ none)
+    × (i .0 ≡ s .present .0 → t .standing ≡ Closed) × ((i .0 ≡ s .present .0 → ⊥) → t .standing ≡ s .standing)
 
 -- THE DEMAND, of every session and every words, whether or not a call returned them. That no word outside the ends is read or written and that each call ends is what
 -- the checker shows of every function
 pub record Demand1 (opens : OpeningSays) (says : CommandSays) : Type 0 where
-  -- an opening
+  -- of an opening
   pub opening : (first left : List ℕ) (o : Answer) → opens first left o → AnyOpening first left (o .session) (told (o .reply))
   -- "A wrong command is refused by the numbers of document 01", and a right one is not
   pub numbers : (s : Session) (c : Command) (lent left : List ℕ) (r : Answer) → says s c lent left r → AnyNumber s c lent (told (r .reply) .number)
