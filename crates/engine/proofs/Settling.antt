@@ -172,3 +172,10 @@ any-acceptance (Close i) s before after t a q z =
       (λ e. k ∙ ap (λ (b : Bool). transitionOf (cond b Event.CloseOfPresent Event.Other) (s .standing) .after) (eq-eqb (i .0) (s .present .0) e)),
       (λ e. k ∙ ap (λ (b : Bool). transitionOf (cond b Event.CloseOfPresent Event.Other) (s .standing) .after) (ne-eqb (i .0) (s .present .0) e)),
     )
+
+-- a Query alters no word, accepted or refused
+pub query-reads-only : {i : Position} {s : Session} {before after : List ℕ} {t : Session} {a : Told} → Settled (Query i) s before after t a → after ≡ before
+query-reads-only {i} {s} {before} {after} {t} {a} q = elim (ℕ-discrete (a .number) 0) [
+  | yes z ↦ any-acceptance (Query i) s before after t a q z .1
+  | no z ↦ settled-refused q z .0
+]

@@ -15,6 +15,7 @@ use Rattle.engine.specs.Demand.{OpeningSays, CommandSays, Demand3}
 use Rattle.engine.specs.Promises.{Demand1}
 use Rattle.engine.specs.Consequences.{OnlyFours}
 use Rattle.engine.specs.Contracts.{Opens, Does}
+use Rattle.engine.proofs.Settling.{query-reads-only}
 use Rattle.engine.proofs.Theorem as theorem
 use Rattle.engine.proofs.open.Reads as open-reads
 use Rattle.engine.proofs.value.Reads as value-reads
@@ -61,16 +62,24 @@ does : (s : Session) (c : Command) (lent left : List ℕ) (r : Answer) → Calle
 does s c lent left r (inl d) = does-own s c lent left r d
 does s c lent left r (inr (κs, x, d)) = d
 
--- The converses. Nothing more is learnt of the functions than their contracts say, so what is shown of every opening that is opened and of every
--- command that is called is shown of no less than the contracts allow. The reference may be any
+-- THE CONVERSES: no more is learnt of the functions than their contracts say, so what is shown of every opening that is opened and of every command that is called is
+-- shown of all that the contracts allow. The reference may be any
 any : RefT (List ℕ)
 any = record { ptr = (0, 0); name = 0; now = [] }
 
 pub opened-of : (first left : List ℕ) (o : Answer) → Opens first left o → Opened first left o
 opened-of first left o d = (([], tt), any, d)
 
-pub called-of : (s : Session) (c : Command) (lent left : List ℕ) (r : Answer) → Does s c lent left r → Called s c lent left r
-called-of s c lent left r d = inr (([], tt), any, d)
+pub own-of : (s : Session) (c : Command) (lent left : List ℕ) (r : Answer) → Does s c lent left r → ByOwn s c lent left r
+own-of s (Value v) lent left r d = (([], tt), any, d)
+own-of s Mark lent left r d = (([], tt), any, d)
+own-of s (Query i) lent left r d =
+    let e = query-reads-only (d .settled) in
+    (([], tt), any, rw e at d, e)
+own-of s (Close i) lent left r d = (([], tt), any, d)
+
+pub apply-of : (s : Session) (c : Command) (lent left : List ℕ) (r : Answer) → Does s c lent left r → ByApply s c lent left r
+apply-of s c lent left r d = (([], tt), any, d)
 
 -- DEMAND 1, with what the checker shows of every function: it stays in bounds, and it ends
 pub demand-1 : Demand1 Opened Called
