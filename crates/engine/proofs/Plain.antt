@@ -1,6 +1,7 @@
 -- The promises of demand 3 in plain numbers, from demand 3 alone. Wherever a run has come to, there is a list of calls that were made; one call more, at its end, meets the demand, and
 -- each promise is one of its clauses with the numbers written out.
 use mathlib.Core.Path.{_≡_, refl, sym, ap, _∙_}
+use mathlib.Core.Bool.{Bool, true, false, cond}
 use mathlib.Core.List.{List, [], _∷_, _++_}
 use mathlib.Core.Logic.{_⊎_, inl, inr}
 use Prim.Native.Nat.{ℕ, _+_, _*_}
@@ -13,9 +14,9 @@ use Rattle.history.specs.Replies.{Told, told}
 use Rattle.history.specs.Histories.{History, Stepped, sessionOf, opening, step, model}
 use Rattle.history.proofs.Steps.{step-words, opening-refused, opening-accepted}
 use Rattle.history.proofs.Following.{told-inactive}
-use Rattle.runs.specs.Runs.{AsLent, Call, wordsAfter, Made}
+use Rattle.runs.specs.Runs.{AsLent, isOwn, Call, wordsAfter, Made}
 use Rattle.runs.specs.Lists.{stateAfterAll, wordsAfterAll, lastSession}
-use Rattle.runs.proofs.Induction.{own-length, own-lent, other-lent, as-lent-at}
+use Rattle.runs.proofs.Induction.{own-length, own-lent, other-lent, other-length, as-lent-at}
 use Rattle.runs.proofs.Lists.{made-more, last-call, state-more, run-words-more, session-more}
 use Rattle.engine.specs.Demand.{Answered, Meets}
 use Rattle.engine.specs.Consequences.{Reached, opened, ownWords, otherWords, OnPaper, Replied, EveryRun}
@@ -123,6 +124,21 @@ come (opened q) = come-opened q
 come (ownWords c g z l d) = come-own (come g) c z l d
 come (otherWords c lent g y d) = come-other (come g) c lent y d
 
+-- EVERY LIST OF CALLS REACHES A POINT. One call more, lent the opening's words or others
+module _ {first words : List ℕ} {h : History} {s : Session} (n : ℕ) (g : Reached Opened Called first s words h) (e : h .words ≡ n) (c : Call model)
+    (lent : isOwn n (c .lent) ≡ true → c .lent ≡ words) (d : Answered Called s c) where
+  further : (b : Bool) → isOwn n (c .lent) ≡ b → Reached Opened Called first (c .session) (cond b (c .left) words) (step h (length (c .lent)) (c .command) .history)
+  further true o =
+      let l = own-length n (c .lent) o in
+      rw (d .3, lent o) (ownWords (c .command) g (λ z. l .0 (sym e ∙ z)) (ap length (sym (lent o)) ∙ l .1 ∙ sym e) (rw (lent o) at (d .1)))
+  further false o = rw (d .3) (otherWords (c .command) (c .lent) g (rw (← e) at (other-length n (c .lent) o)) (d .1))
+
+go-on : {first words : List ℕ} {h : History} {s : Session} (n : ℕ) → Reached Opened Called first s words h → h .words ≡ n → (cs : List (Call model))
+    → Made model (Answered Called) n s words cs → Reached Opened Called first (lastSession model s cs) (wordsAfterAll model n words cs) (stateAfterAll model h cs)
+go-on n g e [] m = g
+go-on {h = h} n g e (c ∷ cs) m =
+    go-on n (further n g e c (m .0) (m .1) (isOwn n (c .lent)) refl) (step-words h (length (c .lent)) (c .command) ∙ e) cs (m .2)
+
 -- THE NEXT REPLY
 replied : {first words : List ℕ} {h : History} {s : Session} → Run first words h s → (c : Command) (lent left : List ℕ) (r : Answer)
     → ((h .words ≡ 0 → ⊥) → length lent ≡ h .words → lent ≡ words) → Called s c lent left r → Replied h c lent left (told (r .reply))
@@ -154,6 +170,7 @@ every-run = record {
   accepts = λ first left o q l.
       let t = demand-3 first left o [] q tt .0 .tells ∙ ap (λ (x : Stepped). x .tells) (opening-accepted (length first) l) in
       (ap (λ (x : Told). x .number) t, ap (λ (x : Told). x .shown) t);
+  reaches = λ first left o calls q m. go-on (paper first .words) (opened q) refl calls m;
   stands = λ first words h s g. come g .stands;
   replies = λ first words h s g c lent left r e d. replied (come g .run) c lent left r e d;
 }

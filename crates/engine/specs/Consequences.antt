@@ -20,7 +20,7 @@ use Rattle.history.specs.Replies.{Told, numbered, told}
 use Rattle.history.specs.Histories.{History, among, opening, step, model}
 use Rattle.history.specs.Examples.{Example}
 use Rattle.runs.specs.Runs.{Call, Made}
-use Rattle.runs.specs.Lists.{commandsOf, toldTo, AllLent}
+use Rattle.runs.specs.Lists.{commandsOf, toldTo, AllLent, stateAfterAll, wordsAfterAll, lastSession}
 use Rattle.engine.specs.Demand.{OpeningSays, CommandSays, Answered}
 
 -- A run from the words `first` has come to a session, to the opening's words as they are then, and to the bookkeeper's paper
@@ -71,6 +71,10 @@ pub record EveryRun (opens : OpeningSays) (says : CommandSays) : Type 0 where
   -- "Opening, with N below 576" gets 1, and another 0
   pub refuses : (first left : List ℕ) (o : Answer) → opens first left o → length first < 576 → (told (o .reply) .number ≡ 1) × (told (o .reply) .shown ≡ none)
   pub accepts : (first left : List ℕ) (o : Answer) → opens first left o → 576 ≤ length first → (told (o .reply) .number ≡ 0) × (told (o .reply) .shown ≡ none)
+  -- each list of calls that demand 3 is about reaches a point
+  pub reaches : (first left : List ℕ) (o : Answer) (calls : List (Call model)) → let start : History = opening (length first) .history in opens first left o
+      → Made model (Answered says) (start .words) (o .session) left calls
+      → Reached opens says first (lastSession model (o .session) calls) (wordsAfterAll model (start .words) left calls) (stateAfterAll model start calls)
   -- "After the opening and after every command in the list"
   pub stands : (first words : List ℕ) (h : History) (s : Session) → Reached opens says first s words h → OnPaper first words h s
   -- and each command's reply

@@ -31,6 +31,13 @@ other-lent n lent (inr o) = elim (ℕ-discrete n 0) [
   | no z ↦ rw (ne-eqb n 0 z) (ne-eqb (length lent) n o)
 ]
 
+-- and what is not is of another length, where words were opened at all
+pub other-length : (n : ℕ) (lent : List ℕ) → isOwn n lent ≡ false → (n ≡ 0) ⊎ (length lent ≡ n → ⊥)
+other-length n lent e = elim (ℕ-discrete n 0) [
+  | yes z ↦ inl z
+  | no z ↦ inr (λ l. clash (own-lent n lent z l) e)
+]
+
 -- words that are as lent equal, from the bound on, what they were
 pub as-lent-at : (bound : ℕ) (first now : List ℕ) → AsLent bound first now → (i : ℕ) → bound ≤ i → getD now i 0 ≡ getD first i 0
 as-lent-at bound first now a i l = a i l
