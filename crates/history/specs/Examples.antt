@@ -210,14 +210,22 @@ pages =
       session = inSession 704 3 3 (pos 3) 2 Marked;
       bound = 640;
     }
+    ∷ record {
+      opened = 704;
+      commands = each 704 (value 1 ∷ Mark ∷ value 2 ∷ Mark ∷ Close (at 1) ∷ Close (at 2) ∷ value 3 ∷ Mark ∷ []);
+      tells = accepted ∷ accepted ∷ accepted ∷ accepted ∷ accepted ∷ accepted ∷ accepted ∷ accepted ∷ [];
+      paper = onPaper 704 3 (pos 1 ∷ pos 2 ∷ pos 3 ∷ []) (at 3 ∷ []) Marked 2;
+      session = inSession 704 3 3 (pos 3) 1 Marked;
+      bound = 640;
+    }
     -- "Query: the reply shows the dip, taken over the written values; the paper stays." Three marks share one, and an older one has its own
     ∷ record {
-      opened = 768;
-      commands = each 768 (value 2 ∷ Mark ∷ value 5 ∷ Mark ∷ value 7 ∷ Mark ∷ value 3 ∷ Mark ∷ value 3 ∷ value 4 ∷ Query (at 1) ∷ Query (at 2) ∷ Query (at 3) ∷ Query (at 4) ∷ []);
+      opened = 832;
+      commands = each 832 (value 2 ∷ Mark ∷ value 5 ∷ Mark ∷ value 7 ∷ Mark ∷ value 3 ∷ Mark ∷ value 3 ∷ value 4 ∷ Query (at 1) ∷ Query (at 2) ∷ Query (at 3) ∷ Query (at 4) ∷ []);
       tells = accepted ∷ accepted ∷ accepted ∷ accepted ∷ accepted ∷ accepted ∷ accepted ∷ accepted ∷ accepted ∷ accepted ∷ showing (standsAt (pos 2) (at 1))
           ∷ showing (standsAt (pos 3) (at 5)) ∷ showing (standsAt (pos 3) (at 5)) ∷ showing (standsAt (pos 3) (at 5)) ∷ [];
-      paper = onPaper 768 4 (pos 2 ∷ pos 5 ∷ pos 7 ∷ pos 3 ∷ pos 3 ∷ pos 4 ∷ []) (at 1 ∷ at 2 ∷ at 3 ∷ at 4 ∷ []) Unmarked 4;
-      session = inSession 768 4 6 (pos 4) 4 Unmarked;
+      paper = onPaper 832 5 (pos 2 ∷ pos 5 ∷ pos 7 ∷ pos 3 ∷ pos 3 ∷ pos 4 ∷ []) (at 1 ∷ at 2 ∷ at 3 ∷ at 4 ∷ []) Unmarked 4;
+      session = inSession 832 5 6 (pos 4) 4 Unmarked;
       bound = 768;
     }
     -- "Close: its position is struck from the taps." An older one leaves the standing, be it unmarked, marked or closed
