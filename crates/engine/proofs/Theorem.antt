@@ -76,7 +76,8 @@ module _ (opened : OpeningSays) (says : CommandSays) (opens : (first left : List
         );
     refusedCommand = λ s c lent left r q z. settled-refused (does s c lent left r q .settled) z;
     acceptedCommand = λ s c lent left r q z. any-acceptance c s lent left (r .session) (told (r .reply)) (does s c lent left r q .settled) z;
-    settled = λ s c lent left r q. let d = does s c lent left r q in (d .long, d .settled);
+    long = λ s c lent left r q. does s c lent left r q .long;
+    settled = λ s c lent left r q. does s c lent left r q .settled;
   }
 
   pub only-fours : OnlyFours opened says

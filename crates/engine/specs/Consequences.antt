@@ -59,8 +59,7 @@ pub record Replied (h : History) (c : Command) (lent left : List ℕ) (a : Told)
   pub full : c ≡ Mark → (h .words ≡ 0 → ⊥) → length lent ≡ h .words → h .standing ≡ Unmarked → length (h .active) ≡ h .limit → a .number ≡ 10
   pub onlyFull : c ≡ Mark → (h .words ≡ 0 → ⊥) → length lent ≡ h .words → h .standing ≡ Unmarked → a .number ≡ 10 → length (h .active) ≡ h .limit
   -- "a query on an active tap gets the least value from the tap's position to the present and the place of that value"
-  pub least : (i : Position) → c ≡ Query i → (h .words ≡ 0 → ⊥) → length lent ≡ h .words → among i (h .active) ≡ true
-      → (m : Minimum) × (a .number ≡ 0) × (a .shown ≡ some m) × Least (h .values) i m
+  pub least : (i : Position) → c ≡ Query i → (h .words ≡ 0 → ⊥) → length lent ≡ h .words → among i (h .active) ≡ true → (m : Minimum) × (a .number ≡ 0) × (a .shown ≡ some m) × Least (h .values) i m
   -- one on another position gets 11 and is shown nothing
   pub inactive : (i : Position) → c ≡ Query i → (h .words ≡ 0 → ⊥) → length lent ≡ h .words → among i (h .active) ≡ false → (a .number ≡ 11) × (a .shown ≡ none)
   -- and whatever a query is shown is the least since an active tap

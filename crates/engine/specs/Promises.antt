@@ -18,7 +18,6 @@ use Rattle.history.specs.declared.Command.{Command}
 use Rattle.history.specs.declared.Command.the-variants.{Value, Mark, Query, Close}
 use Rattle.history.specs.declared.Answer.{Answer}
 use Rattle.history.specs.Replies.{Told, numbered, accepted, showing, told, refusal}
-use Rattle.history.specs.Histories.{blank, sessionOf}
 use Rattle.history.specs.Sessions.{sessionAfter}
 use Rattle.engine.specs.Demand.{OpeningSays, CommandSays}
 
@@ -66,21 +65,16 @@ pub record Settled (c : Command) (s : Session) (before after : List ℕ) (t : Se
   pub refuses : (refusal s (length before) taken c ≡ 0 → ⊥) → AfterRefusal (refusal s (length before) taken c) s before after t a
   pub accepts : refusal s (length before) taken c ≡ 0 → AfterAcceptance c s before after t a ⊎ ((c ≡ Mark) × AfterRefusal 10 s before after t a)
 
+-- the session that an opening of n words for k marks returns
+abbrev pub openedSession : ℕ → ℕ → Session
+openedSession n k = record { words = n; limit = k; present = record { 0 = 0 }; last = pos 0; active = 0; standing = None }
+
 -- AN OPENING, of words of any content
 pub record AnyOpening (first left : List ℕ) (t : Session) (a : Told) : Type 0 where
   -- 1: "Opening, with N below 576; the session returned is unopened with all numbers 0 and standing none"
-  pub tooShort : length first < 576
-      → (a ≡ numbered 1) × (left ≡ first) × (t ≡ record { words = 0; limit = 0; present = record { 0 = 0 }; last = pos 0; active = 0; standing = None })
+  pub tooShort : length first < 576 → (a ≡ numbered 1) × (left ≡ first) × (t ≡ openedSession 0 0)
   -- "Otherwise: reply 0, N is the length told, and K follows from it": "K = (N − 512) / 64 rounded down, and at most 4,096"
-  pub longEnough : 576 ≤ length first
-      → (a ≡ accepted) × (t ≡ record {
-        words = length first;
-        limit = min ((length first - 512) / 64) 4096;
-        present = record { 0 = 0 };
-        last = pos 0;
-        active = 0;
-        standing = None;
-      })
+  pub longEnough : 576 ≤ length first → (a ≡ accepted) × (t ≡ openedSession (length first) (min ((length first - 512) / 64) 4096))
   -- "it may write only words 0 to 511"
   pub rest : (i : ℕ) → 512 ≤ i → getD left i 0 ≡ getD first i 0
   pub long : length left ≡ length first
@@ -111,6 +105,10 @@ pub record AnyNumber (s : Session) (c : Command) (lent : List ℕ) (n : ℕ) : T
   pub otherLength : (s .words ≡ 0 → ⊥) → (length lent ≡ s .words → ⊥) → n ≡ 5
   pub own : (s .words ≡ 0 → ⊥) → length lent ≡ s .words → OwnNumber s c n
 
+-- A REFUSAL: the session comes back as it was, the words are untouched, and nothing is shown
+abbrev pub AnyRefusal : Session → List ℕ → List ℕ → Session → Told → Type 0
+AnyRefusal s lent left t a = (left ≡ lent) × (t ≡ s) × (a .shown ≡ none)
+
 -- AN ACCEPTED COMMAND, from the session s to the session t: what stands in t but for the count of active marks, what is shown, and, of a Query, that the words stay
 abbrev pub AnyAcceptance : Command → Session → List ℕ → List ℕ → Session → Told → Type 0
 AnyAcceptance (Value v) s lent left t a =
@@ -131,13 +129,10 @@ pub record Demand1 (opens : OpeningSays) (says : CommandSays) : Type 0 where
   -- "A wrong command is refused by the numbers of document 01", and a right one is not
   pub numbers : (s : Session) (c : Command) (lent left : List ℕ) (r : Answer) → says s c lent left r → AnyNumber s c lent (told (r .reply) .number)
   -- "a refusal changes no word of the memory and nothing in the session", and "no value or place is shown"
-  pub refusedOpening : (first left : List ℕ) (o : Answer) → opens first left o → (told (o .reply) .number ≡ 0 → ⊥)
-      → (left ≡ first) × (o .session ≡ sessionOf (blank 0 0)) × (told (o .reply) .shown ≡ none)
-  pub refusedCommand : (s : Session) (c : Command) (lent left : List ℕ) (r : Answer) → says s c lent left r → (told (r .reply) .number ≡ 0 → ⊥)
-      → (left ≡ lent) × (r .session ≡ s) × (told (r .reply) .shown ≡ none)
+  pub refusedOpening : (first left : List ℕ) (o : Answer) → opens first left o → (told (o .reply) .number ≡ 0 → ⊥) → AnyRefusal (openedSession 0 0) first left (o .session) (told (o .reply))
+  pub refusedCommand : (s : Session) (c : Command) (lent left : List ℕ) (r : Answer) → says s c lent left r → (told (r .reply) .number ≡ 0 → ⊥) → AnyRefusal s lent left (r .session) (told (r .reply))
   -- "All else a public call hands out .. is determined by its promise for every input."
-  pub acceptedCommand : (s : Session) (c : Command) (lent left : List ℕ) (r : Answer) → says s c lent left r → told (r .reply) .number ≡ 0
-      → AnyAcceptance c s lent left (r .session) (told (r .reply))
+  pub acceptedCommand : (s : Session) (c : Command) (lent left : List ℕ) (r : Answer) → says s c lent left r → told (r .reply) .number ≡ 0 → AnyAcceptance c s lent left (r .session) (told (r .reply))
+  pub long : (s : Session) (c : Command) (lent left : List ℕ) (r : Answer) → says s c lent left r → length left ≡ length lent
   -- and all of it as the contract has it
-  pub settled : (s : Session) (c : Command) (lent left : List ℕ) (r : Answer) → says s c lent left r
-      → (length left ≡ length lent) × Settled c s lent left (r .session) (told (r .reply))
+  pub settled : (s : Session) (c : Command) (lent left : List ℕ) (r : Answer) → says s c lent left r → Settled c s lent left (r .session) (told (r .reply))
