@@ -4,6 +4,8 @@ pub mod Valued
 pub mod Marking
 pub mod Asked
 pub mod Instance
+pub mod Settling
 pub mod Theorem
 pub mod Tied
+pub mod Plain
 pub mod Examples

@@ -2,18 +2,14 @@
 -- and a Query besides follows from the paper alone. Demand 1 is read off the contracts.
 use mathlib.Core.Path.{_≡_, refl, sym, ap, _∙_}
 use mathlib.Core.List.{List, [], _∷_}
-use mathlib.Core.Logic.{⊎-elim}
 use Prim.Native.Nat.{ℕ}
 use native.Mathlib.Omega.{arith}
-use native.Mathlib.Decide.{ℕ-discrete}
 use lib.ListN.{length}
-use Rattle.history.specs.declared.Minimum.{Minimum}
 use Rattle.history.specs.declared.Session.{Session}
 use Rattle.history.specs.declared.Command.{Command}
-use Rattle.history.specs.declared.Command.the-variants.{Value, Mark, Query, Close}
 use Rattle.history.specs.declared.Answer.{Answer}
 use Rattle.history.specs.Minima.{minimum}
-use Rattle.history.specs.Replies.{Told, numbered, told, refusal}
+use Rattle.history.specs.Replies.{Told, numbered, told}
 use Rattle.history.specs.Histories.{History, Stepped, sessionOf, blank, opening, step, model}
 use Rattle.history.specs.Sound.{Sound}
 use Rattle.history.proofs.Steps.{opening-refused, opening-short, opening-words}
@@ -22,11 +18,12 @@ use Rattle.history.proofs.Following.{full-when, told-minimum, active-least, sho
 use Rattle.runs.specs.Runs.{AsLent, Call, stateAfter, Made, Agrees, EachCall}
 use Rattle.runs.proofs.Induction.{own-length, run}
 use Rattle.engine.specs.Demand.{OpeningSays, CommandSays, Answered, Meets, Demand3}
-use Rattle.engine.specs.Promises.{AfterRefusal, AfterAcceptance, shows, Settled, Demand1}
+use Rattle.engine.specs.Promises.{Demand1}
 use Rattle.engine.specs.Consequences.{AllTold, OnlyFours}
 use Rattle.engine.specs.Keeping.{Keeps}
 use Rattle.engine.specs.Contracts.{Opens, Does}
 use Rattle.engine.proofs.Instance.{one-call}
+use Rattle.engine.proofs.Settling.{any-opening, settled-refused, any-number, any-acceptance}
 
 -- a call that agrees with the bookkeeper meets demands 2 and 3
 meets : (n : ℕ) (first now : List ℕ) (h : History) (c : Call model) → h .words ≡ n → Sound h → Agrees model n first now h (stateAfter model h c) c
@@ -41,23 +38,6 @@ meets n first now h c e y a = record {
       let u = shown-minimum h (length (c .lent)) i m (ap (λ (x : Command). step h (length (c .lent)) x .tells .shown) (sym q) ∙ ap (λ (x : Told). x .shown) (sym (a .tells)) ∙ t) in
       (u .0, rw (u .1) (active-least h i y (u .0)));
 }
-
--- a command whose number is not 0 is refused, and alters nothing
-settled-refused : (c : Command) (s : Session) (before after : List ℕ) (t : Session) (a : Told) → Settled c s before after t a → (a .number ≡ 0 → ⊥)
-    → (after ≡ before) × (t ≡ s)
-settled-refused c s before after t a q z = elim (ℕ-discrete (refusal s (length before) (q .taken) c) 0) [
-  | yes e ↦ ⊎-elim
-      (λ (x : AfterAcceptance c s before after t a). absurd (z (ap (λ (y : Told). y .number) (x .tells) ∙ shows-none c (x .found))))
-      (λ (x : (c ≡ Mark) × AfterRefusal 10 s before after t a). (x .1 .words, x .1 .session))
-      (q .accepts e)
-  | no e ↦ let x = q .refuses e in (x .words, x .session)
-]
-  where
-    shows-none : (c : Command) (m : Minimum) → shows c m .number ≡ 0
-    shows-none (Value v) m = refl
-    shows-none Mark m = refl
-    shows-none (Query i) m = refl
-    shows-none (Close i) m = refl
 
 -- on the history of a refused opening every command is told 4
 fours : (first words : List ℕ) (cs : List (Call model)) → EachCall model (Meets 0 first) 0 words (blank 0 0) cs → AllTold (numbered 4) cs
@@ -84,12 +64,20 @@ module _ (opened : OpeningSays) (says : CommandSays) (opens : (first left : List
 
   pub demand-1 : Demand1 opened says
   demand-1 = record {
+    opening = λ first left o q. any-opening first left o (opens first left o q);
+    numbers = λ s c lent left r q. any-number c s lent left (r .session) (told (r .reply)) (does s c lent left r q .settled);
     refusedOpening = λ first left o q z.
         let p = opens first left o q in
         let l = opening-short (length first) (λ e. z (ap (λ (x : Told). x .number) (p .tells) ∙ e)) in
-        (p .refused l, p .represents .session ∙ ap (λ (x : Stepped). sessionOf (x .history)) (opening-refused (length first) l));
-    refusedCommand = λ s c lent left r q z. settled-refused c s lent left (r .session) (told (r .reply)) (does s c lent left r q .settled) z;
-    settled = λ s c lent left r q. let d = does s c lent left r q in (d .long, d .settled);
+        let e = opening-refused (length first) l in (
+          p .refused l,
+          p .represents .session ∙ ap (λ (x : Stepped). sessionOf (x .history)) e,
+          ap (λ (x : Told). x .shown) (p .tells) ∙ ap (λ (x : Stepped). x .tells .shown) e,
+        );
+    refusedCommand = λ s c lent left r q z. settled-refused (does s c lent left r q .settled) z;
+    acceptedCommand = λ s c lent left r q z. any-acceptance c s lent left (r .session) (told (r .reply)) (does s c lent left r q .settled) z;
+    long = λ s c lent left r q. does s c lent left r q .long;
+    settled = λ s c lent left r q. does s c lent left r q .settled;
   }
 
   pub only-fours : OnlyFours opened says

@@ -18,13 +18,13 @@ use Rattle.history.specs.declared.Command.{Command}
 use Rattle.history.specs.declared.Command.the-variants.{Value, Mark, Query, Close}
 use Rattle.history.specs.declared.Event.{Event}
 use Rattle.history.specs.Minima.{minimum, Least}
-use Rattle.history.specs.Replies.{showing, markRefusal}
+use Rattle.history.specs.Replies.{numbered, showing, markRefusal}
 use Rattle.history.specs.Standings.{transitionOf}
 use Rattle.history.specs.Histories.{History, Stepped, sessionOf, among, isActive, accept, refusalOf, step}
 use Rattle.history.specs.Sessions.{countAfter, sessionAfter}
 use Rattle.history.specs.Sound.{Sound}
 use Rattle.history.proofs.Lowest.{lastOf-more, minimum-least}
-use Rattle.history.proofs.Steps.{refusal-unopened, refusal-other, refusal-own, step-refused, step-accepted}
+use Rattle.history.proofs.Steps.{refusal-own, refusal-none, taken-active, step-refused, step-accepted}
 use Rattle.history.proofs.Soundness.{rising-among}
 
 -- THE SESSION AFTER AN ACCEPTANCE is the session of the history that follows, where as many marks are counted as are active then
@@ -64,6 +64,12 @@ module _ (h : History) (n : ℕ) (z : h .words ≡ 0 → ⊥) (o : n ≡ h .word
       ap (λ (x : Stepped). x .tells)
       (step-accepted h n (Query i) (refusal-own (sessionOf h) n (isActive h (Query i)) (Query i) z o ∙ ap (λ (b : Bool). cond b 0 11) a))
 
+  -- and one of another position is shown nothing
+  pub told-inactive : (i : Position) → among i (h .active) ≡ false → step h n (Query i) .tells ≡ numbered 11
+  told-inactive i a =
+      ap (λ (x : Stepped). x .tells)
+      (step-refused h n (Query i) 11 (refusal-own (sessionOf h) n (isActive h (Query i)) (Query i) z o ∙ ap (λ (b : Bool). cond b 0 11) a) (λ x. omega arith))
+
 -- an active mark stands at a position, so its minimum is the least value since
 pub active-least : (h : History) (i : Position) → Sound h → among i (h .active) ≡ true → Least (h .values) i (minimum (h .values) i)
 active-least h i s a = let r = rising-among i (s .rising) a in minimum-least (h .values) i (r .0) (r .1)
@@ -75,17 +81,8 @@ shown-minimum h n i m e = elim (ℕ-discrete (refusalOf h n (Query i)) 0) [
   | yes q ↦
       let x : some (minimum (h .values) i) ≡ some m = sym (ap (λ (x : Stepped). x .tells .shown) (step-accepted h n (Query i) q)) ∙ e in
       let y : minimum (h .values) i ≡ m = cc in
-      let z : h .words ≡ 0 → ⊥ = λ o. omega (arith, refusal-unopened (sessionOf h) n (isActive h (Query i)) (Query i) o) in
-      let o : n ≡ h .words = elim (ℕ-discrete n (h .words)) [
-        | yes o ↦ o
-        | no o ↦ absurd (omega (arith, refusal-other (sessionOf h) n (isActive h (Query i)) (Query i) z o))
-      ] in
-      (is-active (among i (h .active)) (sym (refusal-own (sessionOf h) n (isActive h (Query i)) (Query i) z o) ∙ q), sym y)
+      (taken-active (among i (h .active)) (refusal-none (sessionOf h) n (isActive h (Query i)) (Query i) q .2), sym y)
   | no q ↦
       let x : none ≡ some m = sym (ap (λ (x : Stepped). x .tells .shown) (step-refused h n (Query i) (refusalOf h n (Query i)) refl q)) ∙ e in
       absurd (let y : _≡_ {A = ℕ} 0 1 = cc in omega arith)
 ]
-  where
-    is-active : (b : Bool) → _≡_ {A = ℕ} (cond b 0 11) 0 → b ≡ true
-    is-active true x = refl
-    is-active false x = absurd (omega arith)

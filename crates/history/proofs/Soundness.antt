@@ -1,6 +1,6 @@
 -- Every history that an opening and commands lead to is sound. A Value moves the end of the positions, a Mark adds the one position that an unmarked standing has free,
 -- and a Close strikes one; a Mark is accepted only where fewer than K are active, so that l stays within K.
-use mathlib.Core.Path.{_≡_, refl, sym, _∙_}
+use mathlib.Core.Path.{_≡_, refl}
 use mathlib.Core.Bool.{Bool, true, false, cond, false≢true}
 use mathlib.Core.List.{List, [], _∷_, _++_}
 use Prim.Native.Nat.{ℕ, _+_, _*_, _-_, _<_, _≤_}
@@ -9,20 +9,18 @@ use native.Mathlib.Decide.{ℕ-discrete, decLt}
 use lib.Dec.{eqb}
 use lib.IntN.{ℤ}
 use lib.ListN.{length, length-append}
-use borrow.Author.Tests.{eq-eqb, ne-eqb, eqb-false}
+use borrow.Author.Tests.{eq-eqb, ne-eqb}
 use Rattle.history.specs.declared.Position.{Position}
 use Rattle.history.specs.declared.Standing.{Standing}
 use Rattle.history.specs.declared.Standing.the-variants.{Unmarked, Marked}
 use Rattle.history.specs.declared.Command.{Command}
 use Rattle.history.specs.declared.Command.the-variants.{Value, Mark, Query, Close}
 use Rattle.history.specs.declared.Event.{Event}
-use Rattle.history.specs.declared.Due.{Due}
-use Rattle.history.specs.declared.Due.the-variants.{Nothing, Refused}
-use Rattle.history.specs.Replies.{markRefusal}
+use Rattle.history.specs.declared.Due.the-variants.{Nothing}
 use Rattle.history.specs.Standings.{transitionOf}
 use Rattle.history.specs.Histories.{History, presentOf, sessionOf, limitOf, blank, opening, among, without, accept, refusalOf, step}
 use Rattle.history.specs.Sound.{Rising, done, then, Sound}
-use Rattle.history.proofs.Steps.{some-number, refusal-unopened, refusal-other, refusal-own, unmarked-only, marked-after, step-refused, step-accepted, opening-refused, opening-accepted}
+use Rattle.history.proofs.Steps.{refusal-none, mark-free, unmarked-only, marked-after, step-refused, step-accepted, opening-refused, opening-accepted}
 
 -- the start is not after the end
 reach : {a b : ℕ} {ps : List Position} → Rising a b ps → a ≤ b
@@ -128,21 +126,7 @@ module _ (h : History) (s : Sound h) where
 
   -- a Mark to which no refusal applies: the standing has nothing against it, and fewer than K are active
   free : (n : ℕ) → refusalOf h n Mark ≡ 0 → (transitionOf Event.Mark (h .standing) .due ≡ Nothing) × (length (h .active) ≡ h .limit → ⊥)
-  free n e = elim (ℕ-discrete (h .words) 0) [
-    | yes z ↦ absurd (omega (arith, refusal-unopened (sessionOf h) n false Mark z))
-    | no z ↦ elim (ℕ-discrete n (h .words)) [
-      | yes o ↦ by (transitionOf Event.Mark (h .standing) .due) (sym (refusal-own (sessionOf h) n false Mark z o) ∙ e)
-      | no o ↦ absurd (omega (arith, refusal-other (sessionOf h) n false Mark z o))
-    ]
-  ]
-    where
-      room : (b : Bool) → _≡_ {A = ℕ} (cond b 10 0) 0 → b ≡ false
-      room true e = absurd (omega arith)
-      room false e = refl
-
-      by : (d : Due) → markRefusal (sessionOf h) d ≡ 0 → (d ≡ Nothing) × (length (h .active) ≡ h .limit → ⊥)
-      by (Refused why) e = absurd (some-number why e)
-      by Nothing e = (refl, eqb-false (length (h .active)) (h .limit) (room (eqb (length (h .active)) (h .limit)) e))
+  free n e = mark-free (sessionOf h) (transitionOf Event.Mark (h .standing) .due) (refusal-none (sessionOf h) n false Mark e .2)
 
   accept-sound : (n : ℕ) (c : Command) → refusalOf h n c ≡ 0 → Sound (accept h c .history)
   accept-sound n (Value v) e = value-sound v

@@ -1,21 +1,22 @@
 -- The refusals, the opening and the bookkeeper's steps, by the tests that decide them.
-use mathlib.Core.Path.{_≡_, refl, ap}
+use mathlib.Core.Path.{_≡_, refl, sym, ap, _∙_}
 use mathlib.Core.Bool.{Bool, true, false, cond}
 use Prim.Native.Nat.{ℕ, _<_, _≤_}
-use native.Mathlib.Decide.{decLt}
+use native.Mathlib.Decide.{decLt, ℕ-discrete}
 use native.Mathlib.Omega.{arith}
 use lib.Dec.{eqb}
-use borrow.Author.Tests.{eq-eqb, ne-eqb, lt-ltb, le-ltb}
+use borrow.Author.Tests.{eq-eqb, ne-eqb, eqb-false, lt-ltb, le-ltb}
 use Rattle.history.specs.declared.Standing.{Standing}
 use Rattle.history.specs.declared.Standing.the-variants.{None, Unmarked, Marked, Closed}
 use Rattle.history.specs.declared.Session.{Session}
 use Rattle.history.specs.declared.Command.{Command}
 use Rattle.history.specs.declared.Command.the-variants.{Value, Mark, Query, Close}
 use Rattle.history.specs.declared.Event.{Event}
-use Rattle.history.specs.declared.Due.the-variants.{Nothing}
+use Rattle.history.specs.declared.Due.{Due}
+use Rattle.history.specs.declared.Due.the-variants.{Nothing, Refused}
 use Rattle.history.specs.declared.Refusal.{Refusal}
 use Rattle.history.specs.declared.Refusal.the-variants.{AreaTooShort, UnknownKind, ArgumentCutOff, Unopened, OtherLength, LastPosition, NothingToMark, AlreadyMarked, AlreadyClosed, Full, NotActive}
-use Rattle.history.specs.Replies.{numbered, accepted, numberOf, ownRefusal, refusal}
+use Rattle.history.specs.Replies.{numbered, accepted, numberOf, markRefusal, ownRefusal, refusal}
 use Rattle.history.specs.Standings.{transitionOf}
 use Rattle.history.specs.Histories.{History, Stepped, limitOf, blank, opening, accept, refusalOf, step}
 
@@ -42,6 +43,30 @@ module _ (s : Session) (n : ℕ) (b : Bool) (c : Command) where
 
   pub refusal-own : (s .words ≡ 0 → ⊥) → n ≡ s .words → refusal s n b c ≡ ownRefusal s b c
   refusal-own z o = rw (ne-eqb (s .words) 0 z, eq-eqb n (s .words) o)
+
+  -- where none applies the session is opened, and the words are as many
+  pub refusal-none : refusal s n b c ≡ 0 → (s .words ≡ 0 → ⊥) × (n ≡ s .words) × (ownRefusal s b c ≡ 0)
+  refusal-none e =
+      let z : s .words ≡ 0 → ⊥ = λ z. omega (arith, refusal-unopened z) in
+      let o : n ≡ s .words = elim (ℕ-discrete n (s .words)) [
+        | yes o ↦ o
+        | no o ↦ absurd (omega (arith, refusal-other z o))
+      ] in
+      (z, o, sym (refusal-own z o) ∙ e)
+
+-- a Mark to which none applies: the standing has nothing against it, and another number than K is active
+pub mark-free : (s : Session) (d : Due) → markRefusal s d ≡ 0 → (d ≡ Nothing) × (s .active ≡ s .limit → ⊥)
+mark-free s (Refused why) e = absurd (some-number why e)
+mark-free s Nothing e = (refl, eqb-false (s .active) (s .limit) (room (eqb (s .active) (s .limit)) e))
+  where
+    room : (b : Bool) → _≡_ {A = ℕ} (cond b 10 0) 0 → b ≡ false
+    room true e = absurd (omega arith)
+    room false e = refl
+
+-- a position to which none applies was taken for an active mark
+pub taken-active : (b : Bool) → _≡_ {A = ℕ} (cond b 0 11) 0 → b ≡ true
+taken-active true x = refl
+taken-active false x = absurd (omega arith)
 
 -- the standing has nothing against a Mark where it is unmarked, and only there
 pub unmarked-only : (k : Standing) → transitionOf Event.Mark k .due ≡ Nothing → k ≡ Unmarked

@@ -4,9 +4,10 @@
 use mathlib.Core.Path.{_≡_, refl, sym, _∙_}
 use mathlib.Core.Bool.{Bool, true, false, cond}
 use mathlib.Core.List.{List, [], _∷_}
-use Prim.Native.Nat.{ℕ}
+use mathlib.Core.Logic.{_⊎_, inl, inr}
+use Prim.Native.Nat.{ℕ, _≤_}
 use native.Mathlib.Decide.{ℕ-discrete}
-use lib.ListN.{length}
+use lib.ListN.{length, getD}
 use borrow.Author.Tests.{eq-eqb, ne-eqb, eqb-true}
 use Rattle.laws.proofs.Tests.{clash}
 use Rattle.runs.specs.Runs.{Model, AsLent, isOwn, Call, stateAfter, Made, Agrees, EachCall}
@@ -21,6 +22,25 @@ own-length n lent e = elim (ℕ-discrete n 0) [
 -- and words of the opened length, which is not 0, are the start's
 pub own-lent : (n : ℕ) (lent : List ℕ) → (n ≡ 0 → ⊥) → length lent ≡ n → isOwn n lent ≡ true
 own-lent n lent z l = rw (ne-eqb n 0 z) (eq-eqb (length lent) n l)
+
+-- and no others are
+pub other-lent : (n : ℕ) (lent : List ℕ) → ((n ≡ 0) ⊎ (length lent ≡ n → ⊥)) → isOwn n lent ≡ false
+other-lent n lent (inl z) = rw (eq-eqb n 0 z)
+other-lent n lent (inr o) = elim (ℕ-discrete n 0) [
+  | yes z ↦ rw (eq-eqb n 0 z)
+  | no z ↦ rw (ne-eqb n 0 z) (ne-eqb (length lent) n o)
+]
+
+-- and what is not is of another length, where words were opened at all
+pub other-length : (n : ℕ) (lent : List ℕ) → isOwn n lent ≡ false → (n ≡ 0) ⊎ (length lent ≡ n → ⊥)
+other-length n lent e = elim (ℕ-discrete n 0) [
+  | yes z ↦ inl z
+  | no z ↦ inr (λ l. clash (own-lent n lent z l) e)
+]
+
+-- words that are as lent equal, from the bound on, what they were
+pub as-lent-at : (bound : ℕ) (first now : List ℕ) → AsLent bound first now → (i : ℕ) → bound ≤ i → getD now i 0 ≡ getD first i 0
+as-lent-at bound first now a i l = a i l
 
 -- What one call does, of which `did` is known. `Sound` is what holds of every state that a start and commands lead to; `Keeps h first words`: the words keep the state h
 -- since the start on the words `first`

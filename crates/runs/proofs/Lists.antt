@@ -1,10 +1,12 @@
--- Lists of calls: calls that agree with a model are told what the model tells their commands; calls made in turn are a run; and one call more, at the end.
+-- Lists of calls: calls that agree with a model are told what the model tells their commands; calls made in turn are a run; and one call more, at the end, of which is known what is
+-- known of each.
 use mathlib.Core.Path.{_≡_, refl, ap, _∙_}
+use mathlib.Core.Bool.{true}
 use mathlib.Core.List.{List, [], _∷_, _++_}
 use Prim.Native.Nat.{ℕ}
 use lib.ListN.{length}
-use Rattle.runs.specs.Runs.{Model, Call, Made, EachCall, AllAgree}
-use Rattle.runs.specs.Lists.{repliesOf, stateOf, commandsOf, toldTo, AllLent, InTurn, lastSession, lastWords}
+use Rattle.runs.specs.Runs.{Model, isOwn, Call, wordsAfter, stateAfter, Made, EachCall, AllAgree}
+use Rattle.runs.specs.Lists.{repliesOf, stateOf, commandsOf, toldTo, AllLent, InTurn, stateAfterAll, wordsAfterAll, lastSession, lastWords}
 use Rattle.runs.proofs.Induction.{own-lent}
 
 -- what follows from what is known of each call is known of each call
@@ -46,7 +48,28 @@ module _ (M : Model) (did : M .Session → Call M → Type 0) where
   in-turn-more s words [] c t e d = (e, d, tt)
   in-turn-more s words (a ∷ cs) c t e d = (t .0, t .1, in-turn-more (a .session) (a .left) cs c (t .2) e d)
 
+  -- and one call more of a run
+  pub made-more : (n : ℕ) (s : M .Session) (words : List ℕ) (cs : List (Call M)) (c : Call M) → Made M did n s words cs
+      → (isOwn n (c .lent) ≡ true → c .lent ≡ wordsAfterAll M n words cs) → did (lastSession M s cs) c → Made M did n s words (cs ++ (c ∷ []))
+  made-more n s words [] c m e d = (e, d, tt)
+  made-more n s words (a ∷ cs) c m e d = (m .0, m .1, made-more n (a .session) _ cs c (m .2) e d)
+
+-- what is known of each call of a run is known of the last one
+pub last-call : (M : Model) (P : List ℕ → M .State → M .State → Call M → Type 0) (n : ℕ) (words : List ℕ) (h : M .State) (cs : List (Call M)) (c : Call M)
+    → EachCall M P n words h (cs ++ (c ∷ [])) → P (wordsAfter M n (wordsAfterAll M n words cs) c) (stateAfterAll M h cs) (stateAfter M (stateAfterAll M h cs) c) c
+last-call M P n words h [] c a = a .0
+last-call M P n words h (b ∷ cs) c a = last-call M P n _ _ cs c (a .1)
+
 module _ (M : Model) where
+  pub state-more : (h : M .State) (cs : List (Call M)) (c : Call M) → stateAfterAll M h (cs ++ (c ∷ [])) ≡ M .step (stateAfterAll M h cs) (length (c .lent)) (c .command)
+  state-more h [] c = refl
+  state-more h (a ∷ cs) c = state-more (M .step h (length (a .lent)) (a .command)) cs c
+
+  pub run-words-more : (n : ℕ) (words : List ℕ) (cs : List (Call M)) (c : Call M)
+      → wordsAfterAll M n words (cs ++ (c ∷ [])) ≡ wordsAfter M n (wordsAfterAll M n words cs) c
+  run-words-more n words [] c = refl
+  run-words-more n words (a ∷ cs) c = run-words-more n _ cs c
+
   pub commands-more : (cs : List (Call M)) (c : Call M) → commandsOf M (cs ++ (c ∷ [])) ≡ commandsOf M cs ++ (c .command ∷ [])
   commands-more [] c = refl
   commands-more (a ∷ cs) c = ap (λ (x : List (M .Command)). a .command ∷ x) (commands-more cs c)

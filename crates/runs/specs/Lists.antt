@@ -1,9 +1,10 @@
 -- Lists of commands, each lent n words, as a model works them out; what stands in a list of calls; and calls that are each lent what the last one left.
 use mathlib.Core.Path.{_≡_}
 use mathlib.Core.List.{List, [], _∷_}
+use mathlib.Core.Bool.{cond}
 use Prim.Native.Nat.{ℕ}
 use lib.ListN.{length}
-use Rattle.runs.specs.Runs.{Model, Call}
+use Rattle.runs.specs.Runs.{Model, isOwn, Call}
 
 module _ (M : Model) where
   -- what the model tells the commands
@@ -35,7 +36,16 @@ module _ (M : Model) where
   InTurn did s words [] = Unit {0}
   InTurn did s words (c ∷ cs) = (c .lent ≡ words) × did s c × InTurn did (c .session) (c .left) cs
 
-  -- the session and the words after all the calls
+  -- the model's state after all the calls of a run, and the start's words after them, n of them
+  abbrev pub stateAfterAll : M .State → List (Call M) → M .State
+  stateAfterAll h [] = h
+  stateAfterAll h (c ∷ cs) = stateAfterAll (M .step h (length (c .lent)) (c .command)) cs
+
+  abbrev pub wordsAfterAll : ℕ → List ℕ → List (Call M) → List ℕ
+  wordsAfterAll n words [] = words
+  wordsAfterAll n words (c ∷ cs) = wordsAfterAll n (cond (isOwn n (c .lent)) (c .left) words) cs
+
+  -- the session after all the calls, and the words after calls that were made in turn
   abbrev pub lastSession : M .Session → List (Call M) → M .Session
   lastSession s [] = s
   lastSession s (c ∷ cs) = lastSession (c .session) cs
