@@ -1,14 +1,11 @@
 -- THE THEOREMS that the promises rest on, each cited under its statement, so that none can be dropped, renamed or weakened to another statement unnoticed; and that the runs of
--- `one_run` and `refused_run` meet the hypotheses of the demands as they are stated of the five functions.
+-- `one_run` and `refused_run` meet the hypotheses of the demands as they are stated of the functions.
 use mathlib.Core.Path.{_≡_}
-use mathlib.Core.List.{List, [], _∷_}
-use mathlib.Core.Logic.{⊎-elim}
+use mathlib.Core.List.{List, [], _∷_, _++_, map}
+use mathlib.Core.Logic.{inl}
 use Prim.Native.Nat.{ℕ, _<_, _≤_}
-use native.Mathlib.Decide.{ℕ-discrete}
-use lib.IntN.{ℤ}
+use lib.IntN.{ℤ, pos, negsuc}
 use lib.ListN.{length}
-use contract.Lifetimes.{Lfts}
-use denote.Ref.{RefT}
 use Rattle.history.specs.declared.Position.{Position}
 use Rattle.history.specs.declared.Minimum.{Minimum}
 use Rattle.history.specs.declared.Session.{Session}
@@ -16,25 +13,31 @@ use Rattle.history.specs.declared.Command.{Command}
 use Rattle.history.specs.declared.Command.the-variants.{Value, Mark, Query, Close}
 use Rattle.history.specs.declared.Answer.{Answer}
 use Rattle.history.specs.Minima.{minimum, Least}
-use Rattle.history.specs.Replies.{told, refusal}
+use Rattle.history.specs.Replies.{numbered, numberOf}
 use Rattle.history.specs.Histories.{History, sessionOf, accept, model}
 use Rattle.history.specs.Sessions.{countAfter, sessionAfter}
-use Rattle.history.specs.Examples.{AllWorked, examples}
+use Rattle.history.specs.Examples.{AllWorked, examples, AllKept, pages, refusals}
 use Rattle.history.proofs.Worked as worked
 use Rattle.history.proofs.Lowest as minima
 use Rattle.history.proofs.Following as following
 use Rattle.runs.specs.Runs.{Call, Made}
 use Rattle.engine.specs.Demand.{Answered, Demand3}
-use Rattle.engine.specs.Promises.{AfterRefusal, AfterAcceptance, Demand1}
-use Rattle.engine.specs.Consequences.{OnlyFours, AllGiven}
+use Rattle.engine.specs.Promises.{Demand1}
+use Rattle.engine.specs.Consequences.{EveryRun, OnlyFours, AllGiven}
 use Rattle.engine.specs.Contracts.{Opens, Does}
 use Rattle.engine.proofs.Theorem as theorem
 use Rattle.engine.proofs.Tied as tied
 use Rattle.engine.proofs.Tied.{Opened, Called}
 use Rattle.engine.proofs.Examples as given
+use Rattle.engine.proofs.Plain as plain
+use Rattle.reading.specs.Outcomes.{next, refused, readingOf}
+use Rattle.reading.proofs.Examples as readings
+use Rattle.transcript.specs.Output.{outputOf}
+use Rattle.transcript.specs.Examples.{Example, example, endings}
+use Rattle.transcript.proofs.Examples as printed
 use Rattle.demands.specs.Witness.{Line, RunExists}
 
--- DEMANDS 1 AND 3, of the five functions; demand 2 is part of 3
+-- DEMANDS 1 AND 3, of the engine's functions; demand 2 is part of 3
 demand-1 : Demand1 Opened Called
 demand-1 = tied.demand-1
 
@@ -44,6 +47,10 @@ demand-3 = tied.demand-3
 -- and for a caller, who knows the contracts
 by-contract : Demand3 Opens Does
 by-contract = theorem.by-contract
+
+-- its promises one by one and in plain numbers
+every-run : EveryRun Opened Called
+every-run = plain.every-run
 
 -- "Any command, when the session is unopened": replies 4 only
 only-fours : OnlyFours Opened Called
@@ -56,6 +63,21 @@ examples-worked = worked.examples-worked
 examples-given : AllGiven Opened Called examples
 examples-given = given.examples-given
 
+-- the paper's own numbers, page by page; the numbers of the refusals; and the last position
+pages-kept : AllKept pages
+pages-kept = worked.pages-kept
+
+refusals-numbered : map numberOf refusals ≡ 1 ∷ 2 ∷ 3 ∷ 4 ∷ 5 ∷ 6 ∷ 7 ∷ 8 ∷ 9 ∷ 10 ∷ 11 ∷ []
+refusals-numbered = worked.refusals-numbered
+
+last-refused : (h : History) (n : ℕ) (v : ℤ) → (h .words ≡ 0 → ⊥) → n ≡ h .words → length (h .values) ≡ 4294967295
+    → (model .tells h n (Value v) ≡ numbered 6) × (model .step h n (Value v) ≡ h)
+last-refused = worked.last-refused
+
+last-accepted : (h : History) (n : ℕ) (v : ℤ) → (h .words ≡ 0 → ⊥) → n ≡ h .words → length (h .values) ≡ 4294967294
+    → (model .tells h n (Value v) ≡ numbered 0) × (model .step h n (Value v) .values ≡ h .values ++ (v ∷ []))
+last-accepted = worked.last-accepted
+
 -- the dip is the least value's latest place, and nothing else is
 minimum-least : (vs : List ℤ) (i : Position) → 0 < i .0 → i .0 ≤ length vs → Least vs i (minimum vs i)
 minimum-least = minima.minimum-least
@@ -63,36 +85,37 @@ minimum-least = minima.minimum-least
 least-only : (vs : List ℤ) (i : Position) (d e : Minimum) → Least vs i d → Least vs i e → d ≡ e
 least-only = minima.least-only
 
+-- the bytes of document 01's examples, and both ends of the value range
+unknown-alone : readingOf (5 ∷ []) ≡ refused 2
+unknown-alone = readings.unknown-alone
+
+one-short : readingOf (3 ∷ 1 ∷ 0 ∷ 0 ∷ []) ≡ refused 3
+one-short = readings.one-short
+
+mark-alone : readingOf (2 ∷ []) ≡ next Mark 1
+mark-alone = readings.mark-alone
+
+least-value : readingOf (1 ∷ 0 ∷ 0 ∷ 0 ∷ 128 ∷ []) ≡ next (Value (negsuc 2147483647)) 5
+least-value = readings.least
+
+greatest-value : readingOf (1 ∷ 255 ∷ 255 ∷ 255 ∷ 127 ∷ []) ≡ next (Value (pos 2147483647)) 5
+greatest-value = readings.greatest
+
+-- the stream program's whole output, of document 01's example and of the other endings
+example-printed : outputOf (example .bytes) ≡ example .output
+example-printed = printed.example-printed
+
+endings-printed : map (λ (e : Example). outputOf (e .bytes)) endings ≡ map (λ (e : Example). e .output) endings
+endings-printed = printed.endings-printed
+
 -- the session that demand 1 has after an acceptance is the paper's
 session-follows : (h : History) (c : Command) (counted : ℕ) → countAfter (length (h .active)) c counted ≡ length (accept h c .history .active)
     → sessionAfter (sessionOf h) c counted ≡ sessionOf (accept h c .history)
 session-follows = following.session-follows
 
--- THE RUN, of the five functions: what is learnt of a function holds where its contract does, at any lifetime and any place
-lifetimes : Lfts 1
-lifetimes = ([], tt)
-
-somewhere : RefT (List ℕ)
-somewhere = record { ptr = (0, 0); name = 0; now = [] }
-
-opened : (first left : List ℕ) (o : Answer) → Opens first left o → Opened first left o
-opened first left o p = (lifetimes, somewhere, p)
-
--- a Query alters no word
-reads-only : (s : Session) (i : Position) (lent left : List ℕ) (r : Answer) → Does s (Query i) lent left r → left ≡ lent
-reads-only s i lent left r d = elim (ℕ-discrete (refusal s (length lent) (d .settled .taken) (Query i)) 0) [
-  | yes e ↦ ⊎-elim
-      (λ (x : AfterAcceptance (Query i) s lent left (r .session) (told (r .reply))). x .unaltered)
-      (λ (x : (Query i ≡ Mark) × AfterRefusal 10 s lent left (r .session) (told (r .reply))). x .1 .words)
-      (d .settled .accepts e)
-  | no e ↦ d .settled .refuses e .words
-]
-
+-- THE RUN, of the functions themselves: what is learnt of a command's own function holds where its contract does
 called : (s : Session) (c : Command) (lent left : List ℕ) (r : Answer) → Does s c lent left r → Called s c lent left r
-called s (Value v) lent left r d = (lifetimes, somewhere, d)
-called s Mark lent left r d = (lifetimes, somewhere, d)
-called s (Query i) lent left r d = let e = reads-only s i lent left r d in (lifetimes, somewhere, rw e at d, e)
-called s (Close i) lent left r d = (lifetimes, somewhere, d)
+called s c lent left r d = inl (tied.own-of s c lent left r d)
 
 -- calls of which one thing is known are calls of which what follows from it is known
 made-called : (n : ℕ) (s : Session) (words : List ℕ) (cs : List (Call model)) → Made model (Answered Does) n s words cs → Made model (Answered Called) n s words cs
@@ -108,7 +131,7 @@ run-called n ls r x = record {
   left = x .left;
   o = x .o;
   calls = x .calls;
-  opened = opened (x .first) (x .left) (x .o) (x .opened);
+  opened = tied.opened-of (x .first) (x .left) (x .o) (x .opened);
   made = made-called _ (x .o .session) (x .left) (x .calls) (x .made);
   long = x .long;
   plays = x .plays;

@@ -2,4 +2,5 @@ pub mod Writing
 pub mod Lines
 pub mod Streams
 pub mod Output
+pub mod Examples
 pub mod Private

@@ -1,0 +1,63 @@
+-- Document 01, "Played examples": the bytes and the whole output of its example, and of streams that end in each of the other ways. A command is a line here, and so is a line of the output.
+use mathlib.Core.List.{List, [], _∷_}
+use Prim.Native.Nat.{ℕ}
+
+-- bytes, and all that is printed of them
+pub record Example : Type 0 where
+  pub bytes : List ℕ
+  pub output : List ℕ
+
+-- "For the bytes of V 12, M, V −3, Q 1, C 1, Q 1 the output is, whole": taps 60, 1 V 0, 2 M 0, 3 V 0, 4 Q 0 -3 2, 5 C 0, 6 Q 11, end 6 5 0
+abbrev pub example : Example
+example = record {
+  bytes =
+      1 ∷ 12 ∷ 0 ∷ 0 ∷ 0
+      ∷ 2
+      ∷ 1 ∷ 253 ∷ 255 ∷ 255 ∷ 255
+      ∷ 3 ∷ 1 ∷ 0 ∷ 0 ∷ 0
+      ∷ 4 ∷ 1 ∷ 0 ∷ 0 ∷ 0
+      ∷ 3 ∷ 1 ∷ 0 ∷ 0 ∷ 0
+      ∷ [];
+  output =
+      116 ∷ 97 ∷ 112 ∷ 115 ∷ 32 ∷ 54 ∷ 48 ∷ 10
+      ∷ 49 ∷ 32 ∷ 86 ∷ 32 ∷ 48 ∷ 10
+      ∷ 50 ∷ 32 ∷ 77 ∷ 32 ∷ 48 ∷ 10
+      ∷ 51 ∷ 32 ∷ 86 ∷ 32 ∷ 48 ∷ 10
+      ∷ 52 ∷ 32 ∷ 81 ∷ 32 ∷ 48 ∷ 32 ∷ 45 ∷ 51 ∷ 32 ∷ 50 ∷ 10
+      ∷ 53 ∷ 32 ∷ 67 ∷ 32 ∷ 48 ∷ 10
+      ∷ 54 ∷ 32 ∷ 81 ∷ 32 ∷ 49 ∷ 49 ∷ 10
+      ∷ 101 ∷ 110 ∷ 100 ∷ 32 ∷ 54 ∷ 32 ∷ 53 ∷ 32 ∷ 48 ∷ 10
+      ∷ [];
+}
+
+-- the other endings
+abbrev pub endings : List Example
+endings =
+    -- no bytes: taps 60, end 0 0 0
+    record {
+      bytes = [];
+      output =
+          116 ∷ 97 ∷ 112 ∷ 115 ∷ 32 ∷ 54 ∷ 48 ∷ 10
+          ∷ 101 ∷ 110 ∷ 100 ∷ 32 ∷ 48 ∷ 32 ∷ 48 ∷ 32 ∷ 48 ∷ 10
+          ∷ [];
+    }
+    -- a Mark and an unknown kind, 02 05: taps 60, 1 M 7, stop 1 2, end 1 0 0
+    ∷ record {
+      bytes = 2 ∷ 5 ∷ [];
+      output =
+          116 ∷ 97 ∷ 112 ∷ 115 ∷ 32 ∷ 54 ∷ 48 ∷ 10
+          ∷ 49 ∷ 32 ∷ 77 ∷ 32 ∷ 55 ∷ 10
+          ∷ 115 ∷ 116 ∷ 111 ∷ 112 ∷ 32 ∷ 49 ∷ 32 ∷ 50 ∷ 10
+          ∷ 101 ∷ 110 ∷ 100 ∷ 32 ∷ 49 ∷ 32 ∷ 48 ∷ 32 ∷ 48 ∷ 10
+          ∷ [];
+    }
+    -- an argument that is cut off, 03 01 00 00: taps 60, stop 0 3, end 0 0 0
+    ∷ record {
+      bytes = 3 ∷ 1 ∷ 0 ∷ 0 ∷ [];
+      output =
+          116 ∷ 97 ∷ 112 ∷ 115 ∷ 32 ∷ 54 ∷ 48 ∷ 10
+          ∷ 115 ∷ 116 ∷ 111 ∷ 112 ∷ 32 ∷ 48 ∷ 32 ∷ 51 ∷ 10
+          ∷ 101 ∷ 110 ∷ 100 ∷ 32 ∷ 48 ∷ 32 ∷ 48 ∷ 32 ∷ 48 ∷ 10
+          ∷ [];
+    }
+    ∷ []
