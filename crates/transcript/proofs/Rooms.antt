@@ -1,7 +1,6 @@
 -- How many bytes a command's line takes: no more than eleven for each byte of the command. The line of a Mark, which has one byte, shows no minimum; any other command has five bytes.
-use mathlib.Core.Path.{_≡_, refl, ap, _∙_}
+use mathlib.Core.Path.{_≡_}
 use mathlib.Core.List.{List, [], _∷_, _++_}
-use mathlib.Core.Logic.{⊎-elim}
 use mathlib.Core.Option.{none}
 use Prim.Native.Nat.{ℕ, _+_, _*_, _<_, _≤_}
 use native.Mathlib.Omega.{arith}
@@ -13,10 +12,10 @@ use Rattle.history.specs.declared.Session.{Session}
 use Rattle.history.specs.declared.Command.{Command}
 use Rattle.history.specs.declared.Command.the-variants.{Value, Mark, Query, Close}
 use Rattle.history.specs.declared.Answer.{Answer}
-use Rattle.history.specs.Replies.{Told, numberOf, told, refusal}
+use Rattle.history.specs.Replies.{Told, numberOf, told}
 use Rattle.reading.specs.Kinds.{bytesOf}
-use Rattle.engine.specs.Promises.{AfterAcceptance, AfterRefusal}
 use Rattle.engine.specs.Contracts.{Does}
+use Rattle.engine.proofs.Settling.{settled-refused, any-acceptance}
 use Rattle.transcript.specs.Writing.{Adds, decimalOf}
 use Rattle.transcript.specs.Lines.{newline, replyText, answerLine}
 use Rattle.transcript.proofs.Decimals.{within}
@@ -41,14 +40,11 @@ told-few Reply.Accepted = omega arith
 told-few (Reply.Lowest m) = omega arith
 told-few (Reply.Refused why) = number-few why
 
--- a Mark is shown nothing
+-- a Mark is shown nothing, accepted or refused
 mark-bare : {s : Session} {before after : List ℕ} {r : Answer} → Does s Mark before after r → told (r .reply) .shown ≡ none
-mark-bare {s} {before} {after} {r} d = elim (ℕ-discrete (refusal s (length before) (d .settled .taken) Mark) 0) [
-  | yes e ↦ ⊎-elim
-      (λ (x : AfterAcceptance Mark s before after (r .session) (told (r .reply))). ap (λ (t : Told). t .shown) (x .tells))
-      (λ (x : (_≡_ {A = Command} Mark Mark) × AfterRefusal 10 s before after (r .session) (told (r .reply))). ap (λ (t : Told). t .shown) (x .1 .tells))
-      (d .settled .accepts e)
-  | no e ↦ ap (λ (t : Told). t .shown) (d .settled .refuses e .tells)
+mark-bare {s} {before} {after} {r} d = elim (ℕ-discrete (told (r .reply) .number) 0) [
+  | yes z ↦ any-acceptance Mark s before after (r .session) (told (r .reply)) (d .settled) z .5
+  | no z ↦ settled-refused (d .settled) z .2
 ]
 
 -- its line: five digits, a space, the letter, a space, two digits and the line's end
