@@ -1,4 +1,5 @@
--- DEMAND 1: what a command's reply and session are for EVERY session and EVERY words, also ones that no call ever returned.
+-- DEMAND 1: what an opening and a command hand out for EVERY session and EVERY words, also ones that no call ever returned. First the contract of a command, in which the program's own
+-- choices have names; then, from AN OPENING on, what it comes to, clause by clause and in plain numbers; last the demand.
 -- Document 01: "For all contents of session and area .. one of the listed replies comes back, and what an accepted command then counts
 -- as active .. is free too. .. All else a public call hands out, refusals too, is determined by its promise for every input."
 use mathlib.Core.Path.{_≡_}
@@ -65,7 +66,7 @@ pub record Settled (c : Command) (s : Session) (before after : List ℕ) (t : Se
   pub refuses : (refusal s (length before) taken c ≡ 0 → ⊥) → AfterRefusal (refusal s (length before) taken c) s before after t a
   pub accepts : refusal s (length before) taken c ≡ 0 → AfterAcceptance c s before after t a ⊎ ((c ≡ Mark) × AfterRefusal 10 s before after t a)
 
--- the session that an opening of n words for k marks returns
+-- "The session records N, K, the present position, the last value, the number of active taps, and the present position's standing": that of an opening of n words for k marks
 abbrev pub openedSession : ℕ → ℕ → Session
 openedSession n k = record { words = n; limit = k; present = record { 0 = 0 }; last = pos 0; active = 0; standing = None }
 
@@ -79,20 +80,20 @@ pub record AnyOpening (first left : List ℕ) (t : Session) (a : Told) : Type 0 
   pub rest : (i : ℕ) → 512 ≤ i → getD left i 0 ≡ getD first i 0
   pub long : length left ≡ length first
 
--- 7 to 10, by the standing. On words that no call left an unmarked position may be refused as full
+-- 7 to 10: "Mark, when the standing is none", "marked", "closed", and "when exactly K taps are active". On words that no call left an unmarked position may also be refused as full
 abbrev pub MarkNumber : Session → Standing → ℕ → Type 0
 MarkNumber s None n = n ≡ 7
 MarkNumber s Unmarked n = (s .active ≡ s .limit → n ≡ 10) × ((n ≡ 0) ⊎ (n ≡ 10))
 MarkNumber s Marked n = n ≡ 8
 MarkNumber s Closed n = n ≡ 9
 
--- 11, of a Query or a Close: position 0 and a future one are no active mark, whatever the words hold
+-- 11: "Query or Close, when its position is not an active tap (0, future, unmarked and closed positions included)". Position 0 and a future one are none, whatever the words hold
 pub record PositionNumber (s : Session) (i : Position) (n : ℕ) : Type 0 where
   pub zero : i .0 ≡ 0 → n ≡ 11
   pub future : s .present .0 < i .0 → n ≡ 11
   pub other : (n ≡ 0) ⊎ (n ≡ 11)
 
--- 6 to 11, on an opened session and words of its length
+-- 6 to 11, on an opened session and words of its length. 6: "Value, when the present position is 4,294,967,295"
 abbrev pub OwnNumber : Session → Command → ℕ → Type 0
 OwnNumber s (Value v) n = (s .present .0 ≡ 4294967295 → n ≡ 6) × ((s .present .0 ≡ 4294967295 → ⊥) → n ≡ 0)
 OwnNumber s Mark n = MarkNumber s (s .standing) n
@@ -105,7 +106,7 @@ pub record AnyNumber (s : Session) (c : Command) (lent : List ℕ) (n : ℕ) : T
   pub otherLength : (s .words ≡ 0 → ⊥) → (length lent ≡ s .words → ⊥) → n ≡ 5
   pub own : (s .words ≡ 0 → ⊥) → length lent ≡ s .words → OwnNumber s c n
 
--- A REFUSAL: the session comes back as it was, the words are untouched, and nothing is shown
+-- A REFUSAL: "the session comes back equal .. and the area is untouched; .. no value or place is shown"
 abbrev pub AnyRefusal : Session → List ℕ → List ℕ → Session → Told → Type 0
 AnyRefusal s lent left t a = (left ≡ lent) × (t ≡ s) × (a .shown ≡ none)
 
