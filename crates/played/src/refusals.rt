@@ -41,7 +41,21 @@ fn from_full(s: Session, area: &mut [u64; 577]) {
     refused(s, area, 576, b"Q2");
 }
 
-// 6, in a session made by hand: no run here is as long.
+// The last position, from a session made by hand, since no run here is as long: it is reached, marked, and shown where the least value stands.
+fn to_last_position(area: &mut [u64; 577]) {
+    let s = Session {
+        words: 576,
+        limit: 1,
+        present: Position(4294967294),
+        last: -8,
+        active: 0,
+        standing: Standing::Unmarked,
+    };
+    let s = script::run_first(s, area, 576, b"V- M Q+");
+    print::end(s);
+}
+
+// 6, in a session made by hand.
 fn at_last_position(area: &mut [u64; 577]) {
     let s = Session {
         words: 576,
@@ -69,6 +83,7 @@ pub fn sequences() {
     let s = call::open_first(&mut area, 576);
     let s = before_full(s, &mut area);
     from_full(s, &mut area);
+    to_last_position(&mut area);
     at_last_position(&mut area);
     unopened(&mut area);
 }

@@ -1,5 +1,5 @@
-// Scripts: commands as text, as `V5 M V6 Q1`. A letter begins a command, and the sign after it is its argument: a digit, or of a Value also
-// `-` for the least value and `+` for the greatest. All other signs are passed over.
+// Scripts: commands as text, as `V5 M V6 Q1`. A letter begins a command, and the sign after it is its argument: a digit, `+` for the greatest
+// value or position, or of a Value also `-` for the least. All other signs are passed over.
 ghost use Prim.Native.Nat.{_≤_, _<_};
 ghost use lib.ListN.{length};
 use crate::call;
@@ -35,7 +35,10 @@ fn value_of(sign: u8) -> i32 {
 }
 
 fn position_of(sign: u8) -> Position {
-    Position(digit_of(sign) as u32)
+    match sign {
+        b'+' => Position(4294967295),
+        _ => Position(digit_of(sign) as u32),
+    }
 }
 
 fn step_of(letter: u8, sign: u8) -> Step {
