@@ -22,7 +22,7 @@ callOf k lent left a = record { command = k; lent = lent; left = left; told = to
 
 -- no call
 pub none-left : {n : ℕ} {s : Session} {words : List ℕ} → Commanded n s words words [] s
-none-left = record { calls = []; made = tt; asked = refl; returned = refl; long = refl }
+none-left = record { calls = []; made = tt; asked = refl; returned = refl; leaves = refl; long = refl }
 
 -- a call lent the opening's words, and those that follow
 pub own-then : {s r : Session} {k : Command} {before left after : List ℕ} {a : Answer} {asks : List (Command × ℕ)} → length before ≡ 640
@@ -34,6 +34,7 @@ own-then {k = k} {before = before} {left = left} {a = a} {asks = asks} l d f =
       made = ((λ _. refl), (a, d, refl, refl), rw (own-lent 640 before (λ z. omega arith) l) (m .made));
       asked = rw (m .asked) (ap (λ (x : ℕ). (k, x) ∷ asks) l);
       returned = m .returned;
+      leaves = rw (own-lent 640 before (λ z. omega arith) l) (m .leaves);
       long = m .long ∙ d .long;
     }
 
@@ -45,6 +46,7 @@ lent-then {k = k} {lent = lent} {left = left} {a = a} {asks = asks} o l d m = re
   made = ((λ e. absurd (let x : _≡_ {A = ℕ} 0 1 = cc in omega arith)), (a, d, refl, refl), rw o (m .made));
   asked = rw (m .asked) (ap (λ (x : ℕ). (k, x) ∷ asks) l);
   returned = m .returned;
+  leaves = rw o (m .leaves);
   long = m .long;
 }
 

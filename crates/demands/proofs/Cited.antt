@@ -16,7 +16,8 @@ use Rattle.history.specs.Minima.{minimum, Least}
 use Rattle.history.specs.Replies.{numbered, numberOf}
 use Rattle.history.specs.Histories.{History, sessionOf, accept, model}
 use Rattle.history.specs.Sessions.{countAfter, sessionAfter}
-use Rattle.history.specs.Examples.{AllWorked, examples, AllKept, pages, refusals}
+use Rattle.history.specs.Examples.{AllWorked, examples}
+use Rattle.history.specs.Traces.{AllTraced, traces, refusals}
 use Rattle.history.proofs.Worked as worked
 use Rattle.history.proofs.Lowest as minima
 use Rattle.history.proofs.Following as following
@@ -32,8 +33,7 @@ use Rattle.engine.proofs.Examples as given
 use Rattle.engine.proofs.Plain as plain
 use Rattle.reading.specs.Outcomes.{next, refused, readingOf}
 use Rattle.reading.proofs.Examples as readings
-use Rattle.transcript.specs.Output.{outputOf}
-use Rattle.transcript.specs.Examples.{Example, example, endings}
+use Rattle.transcript.specs.Examples.{Printed, AllPrinted, example, endings}
 use Rattle.transcript.proofs.Examples as printed
 use Rattle.demands.specs.Witness.{Line, RunExists}
 
@@ -63,9 +63,9 @@ examples-worked = worked.examples-worked
 examples-given : AllGiven Opened Called examples
 examples-given = given.examples-given
 
--- the paper's own numbers, page by page; the numbers of the refusals; and the last position
-pages-kept : AllKept pages
-pages-kept = worked.pages-kept
+-- the model's own numbers, trace by trace; the numbers of the refusals; and the last position
+traces-worked : AllTraced traces
+traces-worked = worked.traces-worked
 
 refusals-numbered : map numberOf refusals ≡ 1 ∷ 2 ∷ 3 ∷ 4 ∷ 5 ∷ 6 ∷ 7 ∷ 8 ∷ 9 ∷ 10 ∷ 11 ∷ []
 refusals-numbered = worked.refusals-numbered
@@ -102,10 +102,10 @@ greatest-value : readingOf (1 ∷ 255 ∷ 255 ∷ 255 ∷ 127 ∷ []) ≡ next (
 greatest-value = readings.greatest
 
 -- the stream program's whole output, of document 01's example and of the other endings
-example-printed : outputOf (example .bytes) ≡ example .output
+example-printed : Printed example
 example-printed = printed.example-printed
 
-endings-printed : map (λ (e : Example). outputOf (e .bytes)) endings ≡ map (λ (e : Example). e .output) endings
+endings-printed : AllPrinted endings
 endings-printed = printed.endings-printed
 
 -- the session that demand 1 has after an acceptance is the paper's
@@ -132,6 +132,7 @@ run-called n ls r x = record {
   o = x .o;
   calls = x .calls;
   opened = tied.opened-of (x .first) (x .left) (x .o) (x .opened);
+  tells = x .tells;
   made = made-called _ (x .o .session) (x .left) (x .calls) (x .made);
   long = x .long;
   plays = x .plays;

@@ -18,14 +18,14 @@ use Rattle.engine.proofs.Theorem.{by-contract}
 use Rattle.demands.specs.Witness.{Line, linesOf, asked, lines, RunExists}
 use Rattle.demands.specs.Private.{askedOf, Commanded}
 
--- what the bookkeeper makes of commands and lengths: the lines, and the paper after them
+-- what the bookkeeper makes of commands and lengths: the lines, and the state after them
 abbrev worked : History → List (Command × ℕ) → List Line
 worked h [] = []
 worked h ((k, n) ∷ asks) = (k, n, model .tells h n k) ∷ worked (model .step h n k) asks
 
-abbrev paperAfter : History → List (Command × ℕ) → History
-paperAfter h [] = h
-paperAfter h ((k, n) ∷ asks) = paperAfter (model .step h n k) asks
+abbrev stateAfterAsked : History → List (Command × ℕ) → History
+stateAfterAsked h [] = h
+stateAfterAsked h ((k, n) ∷ asks) = stateAfterAsked (model .step h n k) asks
 
 -- the lines of the run are the bookkeeper's
 pub lines-computed : worked (opening 640 .history) (asked lines) ≡ lines
@@ -42,7 +42,7 @@ module _ (n : ℕ) (first : List ℕ) where
 
   -- and return the session of its paper
   session-worked : (words : List ℕ) (h : History) (s : Session) (cs : List (Call model)) → s ≡ sessionOf h → AllAgree model n first words h cs
-      → lastSession model s cs ≡ sessionOf (paperAfter h (askedOf cs))
+      → lastSession model s cs ≡ sessionOf (stateAfterAsked h (askedOf cs))
   session-worked words h s [] e a = e
   session-worked words h s (c ∷ cs) e a = session-worked _ _ (c .session) cs (a .0 .session) (a .1)
 
@@ -62,7 +62,7 @@ module _ (n : ℕ) (ls : List Line) {first left after : List ℕ} {o : Answer} {
   agrees = each-call model (Meets (start .words) first) _ (λ now h later c x. x .agrees) (start .words) left start (m .calls) (rw l at (demand .1))
 
   -- A RUN EXISTS where an opening of n words was made and then calls whose lines the bookkeeper works out; and the session after it is the paper's
-  pub run-exists : worked start (asked ls) ≡ ls → RunExists n ls Opens Does r × (r ≡ sessionOf (paperAfter start (asked ls)))
+  pub run-exists : worked start (asked ls) ≡ ls → RunExists n ls Opens Does r × (r ≡ sessionOf (stateAfterAsked start (asked ls)))
   run-exists w = (
     record {
       first = first;
@@ -70,6 +70,7 @@ module _ (n : ℕ) (ls : List Line) {first left after : List ℕ} {o : Answer} {
       o = o;
       calls = m .calls;
       opened = p;
+      tells = rw l at (demand .0 .tells);
       made = made;
       long = l;
       plays = lines-worked (start .words) first left start (m .calls) agrees ∙ ap (worked start) (m .asked) ∙ w;
@@ -77,5 +78,5 @@ module _ (n : ℕ) (ls : List Line) {first left after : List ℕ} {o : Answer} {
     },
     sym (m .returned)
         ∙ session-worked (start .words) first left start (o .session) (m .calls) (rw l at (demand .0 .session)) agrees
-        ∙ ap (λ (x : List (Command × ℕ)). sessionOf (paperAfter start x)) (m .asked),
+        ∙ ap (λ (x : List (Command × ℕ)). sessionOf (stateAfterAsked start x)) (m .asked),
   )

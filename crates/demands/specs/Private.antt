@@ -7,7 +7,7 @@ use Rattle.history.specs.declared.Session.{Session}
 use Rattle.history.specs.declared.Command.{Command}
 use Rattle.history.specs.Histories.{model}
 use Rattle.runs.specs.Runs.{Call, Made}
-use Rattle.runs.specs.Lists.{lastSession}
+use Rattle.runs.specs.Lists.{wordsAfterAll, lastSession}
 use Rattle.engine.specs.Demand.{Answered}
 use Rattle.engine.specs.Contracts.{Does}
 
@@ -23,4 +23,5 @@ pub record Commanded (n : ℕ) (s : Session) (before after : List ℕ) (asks : L
   pub made : Made model (Answered Does) n s before calls
   pub asked : askedOf calls ≡ asks
   pub returned : lastSession model s calls ≡ r
+  pub leaves : wordsAfterAll model n before calls ≡ after
   pub long : length after ≡ length before

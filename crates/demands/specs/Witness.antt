@@ -1,5 +1,6 @@
 -- RUNS THAT EXIST: an opening and calls that meet the hypotheses of demand 3, which speaks of "every list of values, taps, queries and closes, refused ones included ..
--- with any length lent at each command". So it speaks of something: each command is accepted here, refusals come, and calls are lent other lengths.
+-- with any length lent at each command". So it speaks of something: each kind of command is accepted here once at least, each
+-- refusal of a command but 6 comes, and calls are lent other lengths.
 use mathlib.Core.Path.{_≡_}
 use mathlib.Core.List.{List, [], _∷_, _++_}
 use Prim.Native.Nat.{ℕ}
@@ -12,7 +13,7 @@ use Rattle.history.specs.declared.Command.{Command}
 use Rattle.history.specs.declared.Command.the-variants.{Value, Mark, Query, Close}
 use Rattle.history.specs.declared.Answer.{Answer}
 use Rattle.history.specs.Minima.{standsAt}
-use Rattle.history.specs.Replies.{Told, numbered, accepted, showing}
+use Rattle.history.specs.Replies.{Told, numbered, accepted, showing, told}
 use Rattle.history.specs.Histories.{opening, model}
 use Rattle.runs.specs.Runs.{Call, Made}
 use Rattle.runs.specs.Lists.{lastSession}
@@ -89,6 +90,7 @@ pub record RunExists (n : ℕ) (ls : List Line) (opens : OpeningSays) (says : Co
   pub o : Answer
   pub calls : List (Call model)
   pub opened : opens first left o
+  pub tells : told (o .reply) ≡ opening n .tells
   pub made : Made model (Answered says) (opening (length first) .history .words) (o .session) left calls
   pub long : length first ≡ n
   pub plays : linesOf calls ≡ ls

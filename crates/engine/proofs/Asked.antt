@@ -128,7 +128,7 @@ module _ (s : Session) (w : List ℕ) (i : Position) (z : s .words ≡ 0 → ⊥
 
       pub close-done : Does s (Close i) w after (acceptedWith s (s .present) (s .last) (s .active - 1) (transitionOf (eventOf (s .present) (Close i)) (s .standing) .after))
       close-done =
-          does-accepted (Close i) s w true (λ _. q .possible g e) (c .long) (due-to (Close i) a-close true)
+          does-accepted (Close i) s w true (λ _. let p = q .possible g e in (p .0, p .1, omega (arith, f))) (c .long) (due-to (Close i) a-close true)
           (record { counted = s .active - 1; found = standsAt (s .last) (s .present); tells = refl; session = refl; unaltered = tt })
           (λ h first y t.
           let k = own-of (Close i) s w z o t in (

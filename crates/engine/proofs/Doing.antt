@@ -5,7 +5,7 @@ use mathlib.Core.Path.{_≡_, refl, sym, ap, _∙_}
 use mathlib.Core.Bool.{Bool, true, false, false≢true}
 use mathlib.Core.List.{List}
 use mathlib.Core.Logic.{inl, inr}
-use Prim.Native.Nat.{ℕ}
+use Prim.Native.Nat.{ℕ, _≤_}
 use lib.IntN.{ℤ}
 use lib.ListN.{length}
 use Rattle.history.specs.declared.Position.{Position}
@@ -99,15 +99,15 @@ module _ (c : Command) (s : Session) (w : List ℕ) where
             ∙ ap (λ (x : Session). sessionAfter x c (a .counted)) (t .session)
             ∙ session-follows h c (a .counted) (f h first q t .2)
 
--- a Mark on words that are no history's, refused as full
-pub does-full : (s : Session) (w : List ℕ) → refusal s (length w) false Mark ≡ 0 → ForEach s w (λ h first. ⊥) → Does s Mark w w (refusedWith s Full)
-does-full s w e n = record {
+-- a Mark on a session that is no history's, refused as full
+pub does-full : (s : Session) (w : List ℕ) → 4096 ≤ s .active → refusal s (length w) false Mark ≡ 0 → ForEach s w (λ h first. ⊥) → Does s Mark w w (refusedWith s Full)
+does-full s w m e n = record {
   long = refl;
   settled = record {
     taken = false;
     possible = λ x. absurd (false≢true x);
     refuses = λ z. absurd (z e);
-    accepts = λ z. inr (refl, record { tells = refl; session = refl; words = refl });
+    accepts = λ z. inr (refl, m, record { tells = refl; session = refl; words = refl });
   };
   tells = λ h first q r. absurd (n h first q r);
   represents = λ h first q r. absurd (n h first q r);

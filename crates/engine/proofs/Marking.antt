@@ -62,7 +62,7 @@ module _ (s : Session) (w : List ℕ) (z : s .words ≡ 0 → ⊥) (o : length w
 
     -- more marks than any opening allows: no history's session
     pub mark-foreign : (s .active ≡ s .limit → ⊥) → 4096 ≤ s .active → Does s Mark w w (refusedWith s Full)
-    mark-foreign n f = does-full s w (none-due n false) (λ h first q r.
+    mark-foreign n f = does-full s w f (none-due n false) (λ h first q r.
         omega (arith, n, q .peaked, q .limited, q .few, ap (λ (x : Session). x .active) (r .session), ap (λ (x : Session). x .limit) (r .session)))
 
     -- a row is spared, and the present position is appended

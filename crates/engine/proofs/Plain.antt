@@ -11,15 +11,15 @@ use Rattle.history.specs.declared.Session.{Session}
 use Rattle.history.specs.declared.Command.{Command}
 use Rattle.history.specs.declared.Answer.{Answer}
 use Rattle.history.specs.Replies.{Told, told}
-use Rattle.history.specs.Histories.{History, Stepped, sessionOf, opening, step, model}
-use Rattle.history.proofs.Steps.{step-words, opening-refused, opening-accepted}
+use Rattle.history.specs.Histories.{History, Stepped, sessionOf, isActive, opening, refusalOf, step, model}
+use Rattle.history.proofs.Steps.{refusal-unopened, refusal-other, step-refused, step-words, opening-refused, opening-accepted}
 use Rattle.history.proofs.Following.{told-inactive}
 use Rattle.runs.specs.Runs.{AsLent, isOwn, Call, wordsAfter, Made}
 use Rattle.runs.specs.Lists.{stateAfterAll, wordsAfterAll, lastSession}
 use Rattle.runs.proofs.Induction.{own-length, own-lent, other-lent, other-length, as-lent-at}
 use Rattle.runs.proofs.Lists.{made-more, last-call, state-more, run-words-more, session-more}
 use Rattle.engine.specs.Demand.{Answered, Meets}
-use Rattle.engine.specs.Consequences.{Reached, opened, ownWords, otherWords, OnPaper, Replied, EveryRun}
+use Rattle.engine.specs.Consequences.{Reached, opened, ownWords, otherWords, Matches, Replied, EveryRun}
 use Rattle.engine.proofs.Tied.{Opened, Called, demand-3}
 
 -- the paper after the opening of the words `first`
@@ -74,7 +74,7 @@ module _ {first words : List ℕ} {h : History} {s : Session} (g : Run first wor
 
 -- what the demand says of the session and the words, written out
 on-paper : {first words : List ℕ} {h : History} {s : Session} → s ≡ sessionOf h → AsLent (model .bound h) first words → length words ≡ length first
-    → OnPaper first words h s
+    → Matches first words h s
 on-paper {first} {words} {h} e a l = record {
   wordsOpened = ap (λ (x : Session). x .words) e;
   limit = ap (λ (x : Session). x .limit) e;
@@ -94,7 +94,7 @@ not-lent (inr o) y l = absurd (o l)
 -- such a list, and what the demand says where it leads to
 record Come (first words : List ℕ) (h : History) (s : Session) : Type 0 where
   run : Run first words h s
-  stands : OnPaper first words h s
+  stands : Matches first words h s
 
 come-opened : {first left : List ℕ} {o : Answer} → Opened first left o → Come first left (paper first) (o .session)
 come-opened {first} {left} {o} q =
@@ -144,12 +144,19 @@ replied : {first words : List ℕ} {h : History} {s : Session} → Run first wor
     → ((h .words ≡ 0 → ⊥) → length lent ≡ h .words → lent ≡ words) → Called s c lent left r → Replied h c lent left (told (r .reply))
 replied {first} {words} {h} g c lent left r e d =
     let m = meets g c lent left r e d in
+    let number = ap (λ (x : Told). x .number) (m .agrees .tells) in
     record {
-      number = ap (λ (x : Told). x .number) (m .agrees .tells);
+      number = number;
       shown = ap (λ (x : Told). x .shown) (m .agrees .tells);
       long = m .agrees .long;
-      unopened = λ z. m .agrees .elsewhere (other-lent (paper first .words) lent (inl (sym (g .opened) ∙ z)));
-      otherLength = λ o. m .agrees .elsewhere (other-lent (paper first .words) lent (inr (λ l. o (l ∙ sym (g .opened)))));
+      unopened = λ z. (
+        number ∙ told-other 4 (refusal-unopened (sessionOf h) (length lent) (isActive h c) c z) (λ x. omega arith),
+        m .agrees .elsewhere (other-lent (paper first .words) lent (inl (sym (g .opened) ∙ z))),
+      );
+      otherLength = λ z o. (
+        number ∙ told-other 5 (refusal-other (sessionOf h) (length lent) (isActive h c) c z o) (λ x. omega arith),
+        m .agrees .elsewhere (other-lent (paper first .words) lent (inr (λ l. o (l ∙ sym (g .opened))))),
+      );
       full = λ q z l u. m .full q z l u .1;
       onlyFull = λ q z l u. m .full q z l u .0;
       least = λ i q z l b.
@@ -160,8 +167,11 @@ replied {first} {words} {h} g c lent left r e d =
           (ap (λ (y : Told). y .number) x, ap (λ (y : Told). y .shown) x);
       onlyLeast = λ i v q t. m .shown i v q t;
     }
+  where
+    told-other : (k : ℕ) → refusalOf h (length lent) c ≡ k → (k ≡ 0 → ⊥) → step h (length lent) c .tells .number ≡ k
+    told-other k f z = ap (λ (x : Stepped). x .tells .number) (step-refused h (length lent) c k f z)
 
--- THE PROMISES OF DEMAND 3, IN PLAIN NUMBERS, of the functions themselves
+-- THE PROMISES OF DEMAND 3, ONE BY ONE, of the functions themselves
 pub every-run : EveryRun Opened Called
 every-run = record {
   refuses = λ first left o q l.

@@ -56,10 +56,10 @@ module _ {c : Command} {s : Session} {before after : List ℕ} {t : Session} {a 
   told-due k e z = ap (λ (x : Told). x .number) (q .refuses (λ o. z (sym e ∙ o)) .tells) ∙ e
 
   -- and else 0, or a Mark is told 10
-  told-none : due ≡ 0 → (a .number ≡ 0) ⊎ ((c ≡ Mark) × (a .number ≡ 10))
+  told-none : due ≡ 0 → (a .number ≡ 0) ⊎ ((c ≡ Mark) × (4096 ≤ s .active) × (a .number ≡ 10))
   told-none e = ⊎-elim
       (λ (x : AfterAcceptance c s before after t a). inl (ap (λ (y : Told). y .number) (x .tells) ∙ shows-none c (x .found)))
-      (λ (x : (c ≡ Mark) × AfterRefusal 10 s before after t a). inr (x .0, ap (λ (y : Told). y .number) (x .1 .tells)))
+      (λ (x : (c ≡ Mark) × (4096 ≤ s .active) × AfterRefusal 10 s before after t a). inr (x .0, x .1, ap (λ (y : Told). y .number) (x .2 .tells)))
       (q .accepts e)
 
   -- a command whose number is not 0 is refused, and alters and shows nothing
@@ -67,7 +67,7 @@ module _ {c : Command} {s : Session} {before after : List ℕ} {t : Session} {a 
   settled-refused z = elim (ℕ-discrete due 0) [
     | yes e ↦ ⊎-elim
         (λ (x : AfterAcceptance c s before after t a). absurd (z (ap (λ (y : Told). y .number) (x .tells) ∙ shows-none c (x .found))))
-        (λ (x : (c ≡ Mark) × AfterRefusal 10 s before after t a). (x .1 .words, x .1 .session, ap (λ (y : Told). y .shown) (x .1 .tells)))
+        (λ (x : (c ≡ Mark) × (4096 ≤ s .active) × AfterRefusal 10 s before after t a). (x .2 .words, x .2 .session, ap (λ (y : Told). y .shown) (x .2 .tells)))
         (q .accepts e)
     | no e ↦ let x = q .refuses e in (x .words, x .session, ap (λ (y : Told). y .shown) (x .tells))
   ]
@@ -79,7 +79,7 @@ module _ {c : Command} {s : Session} {before after : List ℕ} {t : Session} {a 
       e,
       ⊎-elim
           (λ (x : AfterAcceptance c s before after t a). x)
-          (λ (x : (c ≡ Mark) × AfterRefusal 10 s before after t a). absurd (let y : _≡_ {A = ℕ} 0 10 = sym z ∙ ap (λ (y : Told). y .number) (x .1 .tells) in omega arith))
+          (λ (x : (c ≡ Mark) × (4096 ≤ s .active) × AfterRefusal 10 s before after t a). absurd (let y : _≡_ {A = ℕ} 0 10 = sym z ∙ ap (λ (y : Told). y .number) (x .2 .tells) in omega arith))
           (q .accepts e),
     )
     | no e ↦ absurd (e (sym (told-due due refl e) ∙ z))
@@ -93,7 +93,7 @@ module _ {c : Command} {s : Session} {before after : List ℕ} {t : Session} {a 
       go true e = record {
         zero = λ z. absurd (omega (arith, y e .0));
         future = λ l. absurd (omega (arith, y e .1));
-        other = inl (⊎-elim (λ (x : a .number ≡ 0). x) (λ (x : (c ≡ Mark) × (a .number ≡ 10)). absurd (m (x .0))) (told-none (f ∙ ap (λ (b : Bool). cond b 0 11) e)));
+        other = inl (⊎-elim (λ (x : a .number ≡ 0). x) (λ (x : (c ≡ Mark) × (4096 ≤ s .active) × (a .number ≡ 10)). absurd (m (x .0))) (told-none (f ∙ ap (λ (b : Bool). cond b 0 11) e)));
       }
       go false e =
           let n = told-due 11 (f ∙ ap (λ (b : Bool). cond b 0 11) e) (λ x. omega arith) in
@@ -107,8 +107,8 @@ module _ {c : Command} {s : Session} {before after : List ℕ} {t : Session} {a 
   mark-number Unmarked f = (
     full,
     elim (ℕ-discrete (s .active) (s .limit)) [
-      | yes e ↦ inr (full e)
-      | no e ↦ ⊎-elim (λ (x : a .number ≡ 0). inl x) (λ (x : (c ≡ Mark) × (a .number ≡ 10)). inr (x .1))
+      | yes e ↦ inr (full e, inl e)
+      | no e ↦ ⊎-elim (λ (x : a .number ≡ 0). inl x) (λ (x : (c ≡ Mark) × (4096 ≤ s .active) × (a .number ≡ 10)). inr (x .2, inr (x .1)))
           (told-none (f ∙ ap (λ (b : Bool). cond b 10 0) (ne-eqb (s .active) (s .limit) e)))
     ],
   )
@@ -120,12 +120,19 @@ own-number : (c : Command) (s : Session) (before after : List ℕ) (t : Session)
     → refusal s (length before) (q .taken) c ≡ ownRefusal s (q .taken) c → OwnNumber s c (a .number)
 own-number (Value v) s before after t a q f = (
   (λ e. told-due q 6 (f ∙ ap (λ (b : Bool). cond b 6 0) (eq-eqb (s .present .0) 4294967295 e)) (λ x. omega arith)),
-  (λ e. ⊎-elim (λ (x : a .number ≡ 0). x) (λ (x : (Value v ≡ Mark) × (a .number ≡ 10)). absurd (let m = x .0 in let z : _≡_ {A = ℕ} 0 1 = cc in omega arith))
+  (λ e. ⊎-elim (λ (x : a .number ≡ 0). x) (λ (x : (Value v ≡ Mark) × (4096 ≤ s .active) × (a .number ≡ 10)). absurd (let m = x .0 in let z : _≡_ {A = ℕ} 0 1 = cc in omega arith))
       (told-none q (f ∙ ap (λ (b : Bool). cond b 6 0) (ne-eqb (s .present .0) 4294967295 e)))),
 )
 own-number Mark s before after t a q f = mark-number q (s .standing) f
 own-number (Query i) s before after t a q f = position-number q i (λ m. let z : _≡_ {A = ℕ} 0 1 = cc in omega arith) f (q .possible)
-own-number (Close i) s before after t a q f = position-number q i (λ m. let z : _≡_ {A = ℕ} 0 1 = cc in omega arith) f (q .possible)
+own-number (Close i) s before after t a q f = (
+  position-number q i (λ m. let z : _≡_ {A = ℕ} 0 1 = cc in omega arith) f (λ e. let p = q .possible e in (p .0, p .1)),
+  (λ z. go z (q .taken) refl),
+)
+  where
+    go : s .active ≡ 0 → (b : Bool) → q .taken ≡ b → a .number ≡ 11
+    go z true e = absurd (omega (arith, z, q .possible e .2))
+    go z false e = told-due q 11 (f ∙ ap (λ (b : Bool). cond b 0 11) e) (λ x. omega arith)
 
 -- the number of any command
 pub any-number : (c : Command) (s : Session) (before after : List ℕ) (t : Session) (a : Told) → Settled c s before after t a → AnyNumber s c before (a .number)

@@ -36,7 +36,7 @@ pub data Reached (opens : OpeningSays) (says : CommandSays) (first : List ℕ) :
 
 -- wherever a run has come to: "N, K, present position, last value, number of active taps and standing" are those on the paper, and
 -- "every word from index 512 + 64 × l on is still as it was lent"
-pub record OnPaper (first words : List ℕ) (h : History) (s : Session) : Type 0 where
+pub record Matches (first words : List ℕ) (h : History) (s : Session) : Type 0 where
   pub wordsOpened : s .words ≡ h .words
   pub limit : s .limit ≡ h .limit
   pub present : s .present .0 ≡ length (h .values)
@@ -53,8 +53,8 @@ pub record Replied (h : History) (c : Command) (lent left : List ℕ) (a : Told)
   pub shown : a .shown ≡ step h (length lent) c .tells .shown
   pub long : length left ≡ length lent
   -- "Any other command may be lent any words, and alters none of them": after a refused opening, and at another length than N
-  pub unopened : h .words ≡ 0 → left ≡ lent
-  pub otherLength : (length lent ≡ h .words → ⊥) → left ≡ lent
+  pub unopened : h .words ≡ 0 → (a .number ≡ 4) × (left ≡ lent)
+  pub otherLength : (h .words ≡ 0 → ⊥) → (length lent ≡ h .words → ⊥) → (a .number ≡ 5) × (left ≡ lent)
   -- "A tap no earlier rule refuses is refused as full exactly when the opened number is active."
   pub full : c ≡ Mark → (h .words ≡ 0 → ⊥) → length lent ≡ h .words → h .standing ≡ Unmarked → length (h .active) ≡ h .limit → a .number ≡ 10
   pub onlyFull : c ≡ Mark → (h .words ≡ 0 → ⊥) → length lent ≡ h .words → h .standing ≡ Unmarked → a .number ≡ 10 → length (h .active) ≡ h .limit
@@ -62,10 +62,10 @@ pub record Replied (h : History) (c : Command) (lent left : List ℕ) (a : Told)
   pub least : (i : Position) → c ≡ Query i → (h .words ≡ 0 → ⊥) → length lent ≡ h .words → among i (h .active) ≡ true → (m : Minimum) × (a .number ≡ 0) × (a .shown ≡ some m) × Least (h .values) i m
   -- one on another position gets 11 and is shown nothing
   pub inactive : (i : Position) → c ≡ Query i → (h .words ≡ 0 → ⊥) → length lent ≡ h .words → among i (h .active) ≡ false → (a .number ≡ 11) × (a .shown ≡ none)
-  -- and whatever a query is shown is the least since an active tap
+  -- and whatever a query is shown is the least since an active mark
   pub onlyLeast : (i : Position) (m : Minimum) → c ≡ Query i → a .shown ≡ some m → (among i (h .active) ≡ true) × Least (h .values) i m
 
--- THE PROMISES OF DEMAND 3, IN PLAIN NUMBERS
+-- THE PROMISES OF DEMAND 3, ONE BY ONE: the numbers 1, 4, 5, 10 and, of a Query, 0 and 11 are written out; 6 to 9 and a Close's 11 are those of the bookkeeper's step
 pub record EveryRun (opens : OpeningSays) (says : CommandSays) : Type 0 where
   -- "Opening, with N below 576" gets 1, and another 0
   pub refuses : (first left : List ℕ) (o : Answer) → opens first left o → length first < 576 → (told (o .reply) .number ≡ 1) × (told (o .reply) .shown ≡ none)
@@ -75,7 +75,7 @@ pub record EveryRun (opens : OpeningSays) (says : CommandSays) : Type 0 where
       → Made model (Answered says) (start .words) (o .session) left calls
       → Reached opens says first (lastSession model (o .session) calls) (wordsAfterAll model (start .words) left calls) (stateAfterAll model start calls)
   -- "After the opening and after every command in the list"
-  pub stands : (first words : List ℕ) (h : History) (s : Session) → Reached opens says first s words h → OnPaper first words h s
+  pub stands : (first words : List ℕ) (h : History) (s : Session) → Reached opens says first s words h → Matches first words h s
   -- and each command's reply
   pub replies : (first words : List ℕ) (h : History) (s : Session) → Reached opens says first s words h → (c : Command) (lent left : List ℕ) (r : Answer)
       → ((h .words ≡ 0 → ⊥) → length lent ≡ h .words → lent ≡ words) → says s c lent left r → Replied h c lent left (told (r .reply))

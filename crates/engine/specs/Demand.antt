@@ -37,7 +37,7 @@ pub record OpeningAgrees (first left : List ℕ) (o : Answer) : Type 0 where
 
 -- "and after every command in the list": one call, with the paper h before it and `later` after it. The opening's words were `first`, and are `now` after the call
 pub record Meets (n : ℕ) (first now : List ℕ) (h later : History) (c : Call model) : Type 0 where
-  -- the reply, the session and the words are as the bookkeeper has them
+  -- DEMAND 2: "Every reply is the one the four commands .. give for the history since opening". With it the session and the words are as the bookkeeper has them
   pub agrees : Agrees model n first now h later c
   -- "A tap no earlier rule refuses is refused as full exactly when the opened number is active."
   pub full : c .command ≡ Command.Mark → (h .words ≡ 0 → ⊥) → length (c .lent) ≡ h .words → h .standing ≡ Standing.Unmarked
@@ -45,7 +45,7 @@ pub record Meets (n : ℕ) (first now : List ℕ) (h later : History) (c : Call 
   -- DEMAND 2: "a query on an active tap gets the least value from the tap's position to the present and the place of that value"
   pub gets : (i : Position) → c .command ≡ Command.Query i → isOwn n (c .lent) ≡ true → among i (h .active) ≡ true
       → (m : Minimum) × (c .told ≡ showing m) × Least (h .values) i m
-  -- and a query on another position is shown nothing
+  -- and whatever a query is shown is the least since an active mark
   pub shown : (i : Position) (m : Minimum) → c .command ≡ Command.Query i → c .told .shown ≡ some m → (among i (h .active) ≡ true) × Least (h .values) i m
 
 -- THE CLAIM, where `opens` is known of the opening's function, and `says` of the commands' functions

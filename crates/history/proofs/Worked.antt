@@ -1,6 +1,6 @@
--- The lists of examples are right: what the bookkeeper tells, and what then stands on the paper, compute to them. What no list can show is a law of every history: the last position.
+-- The lists of examples and traces are right: what the model tells, and its state in the end, compute to them. What no list can show is a law of every history: the last position.
 use mathlib.Core.Path.{_≡_, refl, ap, _∙_}
-use mathlib.Core.List.{_∷_, [], _++_, map}
+use mathlib.Core.List.{_∷_, [], _++_}
 use mathlib.Core.Option.{none, some}
 use Prim.Native.Nat.{ℕ}
 use lib.IntN.{ℤ}
@@ -15,7 +15,8 @@ use Rattle.history.specs.declared.Reply.the-variants.{Accepted, Lowest, 
 use Rattle.history.specs.Minima.{lowest}
 use Rattle.history.specs.Replies.{numbered, numberOf, told}
 use Rattle.history.specs.Histories.{History, Stepped, sessionOf, isActive, accept, step, model}
-use Rattle.history.specs.Examples.{AllWorked, examples, AllKept, pages, refusals}
+use Rattle.history.specs.Examples.{AllWorked, examples}
+use Rattle.history.specs.Traces.{AllTraced, traces, AllNumbered, refusals}
 use Rattle.history.proofs.Steps.{refusal-own, refused, step-refused, step-accepted}
 
 -- THE PLAYED EXAMPLES, all of the list
@@ -23,13 +24,13 @@ pub examples-worked : AllWorked examples
 unfolding lowest
 examples-worked = refl
 
--- THE PAPER, all of the list
-pub pages-kept : AllKept pages
+-- THE TRACES, all of the list
+pub traces-worked : AllTraced traces
 unfolding lowest
-pages-kept = refl
+traces-worked = refl
 
 -- THE NUMBERS OF THE REFUSALS, in the order of document 01's list
-pub refusals-numbered : map numberOf refusals ≡ 1 ∷ 2 ∷ 3 ∷ 4 ∷ 5 ∷ 6 ∷ 7 ∷ 8 ∷ 9 ∷ 10 ∷ 11 ∷ []
+pub refusals-numbered : AllNumbered refusals
 refusals-numbered = refl
 
 -- WHAT EACH CASE OF A REPLY TELLS: 0 and nothing shown, 0 and "value and place", and the refusal's number with "no value or place"

@@ -15,7 +15,8 @@ use Rattle.history.specs.Standings.{eventOf, transitionOf}
 use Rattle.history.specs.Replies.{Told, numbered, accepted, showing, refusal}
 
 -- "On the paper stand N, K, the values in order, the active taps, the standing and l."
--- `words` is N, `limit` is K, and `peak` is l; the values stand in the order of their positions, the active marks in ascending order
+-- `words` is N, `limit` is K, and `peak` is l; the values stand in the order of their positions, the active marks (document 01's "active taps") in
+-- ascending order
 pub record History : Type 0 where
   pub words : ℕ
   pub limit : ℕ

@@ -5,3 +5,4 @@ pub mod Histories
 pub mod Sessions
 pub mod Sound
 pub mod Examples
+pub mod Traces

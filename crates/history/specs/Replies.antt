@@ -13,7 +13,7 @@ use Rattle.history.specs.declared.Event.{Event}
 use Rattle.history.specs.declared.Due.{Due}
 use Rattle.history.specs.Standings.{transitionOf}
 
--- what a caller is told: the paper's number and, "for Query", "value and place"
+-- what a caller is told: document 01's number and, "for Query", "value and place"
 pub record Told : Type 0 where
   pub number : ℕ
   pub shown : Option Minimum

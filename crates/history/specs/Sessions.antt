@@ -22,7 +22,7 @@ lastAfter last Mark = last
 lastAfter last (Query i) = last
 lastAfter last (Close i) = last
 
--- a Query leaves the count of active marks; after another command so many are counted
+-- a Query leaves the count of active marks; after another command it is `counted`, which is free for sessions and words that no call left
 abbrev pub countAfter : ℕ → Command → ℕ → ℕ
 countAfter active (Value v) counted = counted
 countAfter active Mark counted = counted

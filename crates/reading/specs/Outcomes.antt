@@ -15,7 +15,7 @@ use Rattle.reading.specs.declared.Reading.{Reading}
 use Rattle.reading.specs.declared.Reading.the-variants.{End, Next, Refused}
 use Rattle.reading.specs.Kinds.{kindOf, argumentBytes, lengthOf, commandOf}
 
--- what a reading finds: the paper's number where it is refused, the command where there is one, and how many bytes it uses
+-- what a reading finds: document 01's number where it is refused, the command where there is one, and how many bytes it uses
 pub record Outcome : Type 0 where
   pub number : Option ℕ
   pub command : Option Command

@@ -48,7 +48,7 @@ module _ (M : Model) where
   stateAfter h c = M .step h (length (c .lent)) (c .command)
 
   -- The calls were made one after the other, and `did` is known of each. "Each call gets the session the last call returned and words as document 01 lends them; nobody else
-  -- writes the opening's words meanwhile": a call lent N words gets the opening's "as last left"; "any other command may be lent any words"
+  -- writes the opening's words meanwhile": a call lent N words gets the opening's "as last left"; "Any other command may be lent any words"
   abbrev pub Made : (M .Session → Call M → Type 0) → ℕ → M .Session → List ℕ → List (Call M) → Type 0
   Made did n s words [] = Unit {0}
   Made did n s words (c ∷ cs) = (isOwn n (c .lent) ≡ true → c .lent ≡ words) × did s c × Made did n (c .session) (wordsAfter n words c) cs

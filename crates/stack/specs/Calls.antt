@@ -62,7 +62,7 @@ pub record Topping (w : List ℕ) (p : Position) (r : Bool) : Type 0 where
 pub record Located (w : List ℕ) (h : Held) (r : Place) : Type 0 where
   pub covers : (n : ℕ) → Stacked w n → h .0 < n → Covers w r h
 
--- the minimum that each case of a look's answer gives (document 01: "Where an answer is an enum, a definition gives this paper's number and values for each case of the enum")
+-- the minimum that each case of a look's answer gives, in the form that document 01 asks of an answer that is an enum
 abbrev pub minimumOf : Low → Option Minimum
 minimumOf (At m) = some m
 minimumOf Nothing = none

@@ -12,7 +12,7 @@ use Rattle.table.specs.declared.Found.{Found}
 use Rattle.table.specs.declared.Found.the-variants.{At, Nothing}
 use Rattle.table.specs.Marks.{Linked, activeIn, Live, Above}
 
--- the row that each case of a search's answer gives (document 01: "Where an answer is an enum, a definition gives this paper's number and values for each case of the enum")
+-- the row that each case of a search's answer gives, in the form that document 01 asks of an answer that is an enum
 abbrev pub rowOf : Found → Option Held
 rowOf (At h) = some h
 rowOf Nothing = none

@@ -1,20 +1,19 @@
 -- The examples are right: the whole output computes to them. And the least value's text, which is the longest.
 use mathlib.Core.Path.{_≡_, refl}
-use mathlib.Core.List.{[], _∷_, map}
+use mathlib.Core.List.{[], _∷_}
 use lib.IntN.{negsuc}
 use Rattle.history.specs.Minima.{lowest}
 use Rattle.transcript.specs.Writing.{digitsWithin, signedText}
 use Rattle.transcript.specs.Streams.{streamFrom}
-use Rattle.transcript.specs.Output.{outputOf}
-use Rattle.transcript.specs.Examples.{Example, example, endings}
+use Rattle.transcript.specs.Examples.{Printed, AllPrinted, example, endings}
 
 -- DOCUMENT 01'S EXAMPLE: these bytes, that output, whole
-pub example-printed : outputOf (example .bytes) ≡ example .output
+pub example-printed : Printed example
 unfolding digitsWithin streamFrom lowest
 example-printed = refl
 
 -- THE OTHER ENDINGS, all of the list
-pub endings-printed : map (λ (e : Example). outputOf (e .bytes)) endings ≡ map (λ (e : Example). e .output) endings
+pub endings-printed : AllPrinted endings
 unfolding digitsWithin streamFrom
 endings-printed = refl
 

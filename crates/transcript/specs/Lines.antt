@@ -15,7 +15,7 @@ letterOf Mark = 77
 letterOf (Query i) = 81
 letterOf (Close i) = 67
 
--- words stand a space apart, and a line ends with a line feed
+-- the parts of a line stand a space apart, and it ends with a line feed
 abbrev pub spaced : List ℕ → List ℕ
 spaced text = 32 ∷ text
 

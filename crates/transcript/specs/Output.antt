@@ -1,4 +1,5 @@
--- Document 01, "Played examples": the whole output of the stream program, as a function of its bytes.
+-- Document 01, "Played examples": the whole output of the stream program, as a function of its bytes. `transcript::write` leaves it in an array; the program's `main` reads the bytes before
+-- and writes the array after.
 use mathlib.Core.Bool.{cond}
 use mathlib.Core.List.{List, [], _∷_, _++_}
 use mathlib.Core.Option.{Option, none, some}
@@ -38,6 +39,6 @@ printed n s =
     ++ (answerLines 1 (s .commands) told
     ++ (stopLines (s .at) (s .refusal) ++ endLine (length (s .commands)) (acceptances told) (length (stateOf model start n (s .commands) .active))))
 
--- THE WHOLE OUTPUT: "The stream program opens 4,352 words (K = 60) and reads at most the first 16,384 bytes."
+-- THE WHOLE OUTPUT: "The stream program opens 4,352 words (K = 60) and reads at most the first 16,384 bytes." A command that goes on behind them is cut off there, and gets 3
 abbrev pub outputOf : List ℕ → List ℕ
 outputOf bytes = printed 4352 (streamOf (take 16384 bytes))

@@ -112,8 +112,8 @@ fn play(bytes: &[u8], out: &mut [u8]) -> usize
     )
 }
 
-// Writes all that is printed of a stream, of which no more than the first 16,384 bytes are read, and returns how many bytes that is. There is room for eleven bytes for each byte that is
-// read, and for the first and the last lines.
+// Writes all that is printed of a stream, of which no more than the first 16,384 bytes are read, and returns how many bytes that is: a number of bytes at the start of `out`, which is what
+// `Counts` says. There is room for eleven bytes for each byte that is read, and for the first and the last lines.
 pub fn write(bytes: &[u8], out: &mut [u8; 180364]) -> usize
     ensures { λ r. ⌜ take r (now (out .exit)) ≡ outputOf (now (bytes .entry)) ⌝ }
     ensures { λ r. ⌜ Counts r (now (out .exit)) ⌝ }
