@@ -3,6 +3,7 @@
 use mathlib.Core.Path.{_≡_}
 use mathlib.Core.List.{List, [], _∷_, _++_, map}
 use mathlib.Core.Logic.{inl}
+use mathlib.Core.Option.{none, some}
 use Prim.Native.Nat.{ℕ, _<_, _≤_}
 use lib.IntN.{ℤ, pos, negsuc}
 use lib.ListN.{length}
@@ -28,10 +29,10 @@ use Rattle.engine.specs.Consequences.{EveryRun, OnlyFours, AllGiven}
 use Rattle.engine.specs.Contracts.{Opens, Does}
 use Rattle.engine.proofs.Theorem as theorem
 use Rattle.engine.proofs.Tied as tied
-use Rattle.engine.proofs.Tied.{Opened, Called}
+use Rattle.engine.proofs.Tied.{Opened, ByOwn, ByApply, Called}
 use Rattle.engine.proofs.Examples as given
 use Rattle.engine.proofs.Plain as plain
-use Rattle.reading.specs.Outcomes.{next, refused, readingOf}
+use Rattle.reading.specs.Outcomes.{readingOf}
 use Rattle.reading.proofs.Examples as readings
 use Rattle.transcript.specs.Examples.{Printed, AllPrinted, example, endings}
 use Rattle.transcript.proofs.Examples as printed
@@ -85,21 +86,34 @@ minimum-least = minima.minimum-least
 least-only : (vs : List ℤ) (i : Position) (d e : Minimum) → Least vs i d → Least vs i e → d ≡ e
 least-only = minima.least-only
 
--- the bytes of document 01's examples, and both ends of the value range
-unknown-alone : readingOf (5 ∷ []) ≡ refused 2
+-- the bytes of document 01's examples, both ends of the value range, positions, and every other byte; what is found is written out
+nothing-left : readingOf [] ≡ record { number = none; command = none; used = 0 }
+nothing-left = readings.nothing-left
+
+unknown-alone : readingOf (5 ∷ []) ≡ record { number = some 2; command = none; used = 0 }
 unknown-alone = readings.unknown-alone
 
-one-short : readingOf (3 ∷ 1 ∷ 0 ∷ 0 ∷ []) ≡ refused 3
+unknown-kind : (kind : ℕ) (behind : List ℕ) → (kind ≡ 1 → ⊥) → (kind ≡ 2 → ⊥) → (kind ≡ 3 → ⊥) → (kind ≡ 4 → ⊥)
+    → readingOf (kind ∷ behind) ≡ record { number = some 2; command = none; used = 0 }
+unknown-kind = readings.unknown-kind
+
+one-short : readingOf (3 ∷ 1 ∷ 0 ∷ 0 ∷ []) ≡ record { number = some 3; command = none; used = 0 }
 one-short = readings.one-short
 
-mark-alone : readingOf (2 ∷ []) ≡ next Mark 1
+mark-alone : readingOf (2 ∷ []) ≡ record { number = none; command = some Mark; used = 1 }
 mark-alone = readings.mark-alone
 
-least-value : readingOf (1 ∷ 0 ∷ 0 ∷ 0 ∷ 128 ∷ []) ≡ next (Value (negsuc 2147483647)) 5
+least-value : readingOf (1 ∷ 0 ∷ 0 ∷ 0 ∷ 128 ∷ []) ≡ record { number = none; command = some (Value (negsuc 2147483647)); used = 5 }
 least-value = readings.least
 
-greatest-value : readingOf (1 ∷ 255 ∷ 255 ∷ 255 ∷ 127 ∷ []) ≡ next (Value (pos 2147483647)) 5
+greatest-value : readingOf (1 ∷ 255 ∷ 255 ∷ 255 ∷ 127 ∷ []) ≡ record { number = none; command = some (Value (pos 2147483647)); used = 5 }
 greatest-value = readings.greatest
+
+last-position : readingOf (3 ∷ 255 ∷ 255 ∷ 255 ∷ 255 ∷ []) ≡ record { number = none; command = some (Query (record { 0 = 4294967295 })); used = 5 }
+last-position = readings.last-position
+
+some-position : readingOf (4 ∷ 4 ∷ 3 ∷ 2 ∷ 1 ∷ []) ≡ record { number = none; command = some (Close (record { 0 = 16909060 })); used = 5 }
+some-position = readings.some-position
 
 -- the stream program's whole output, of document 01's example and of the other endings
 example-printed : Printed example
@@ -113,9 +127,19 @@ session-follows : (h : History) (c : Command) (counted : ℕ) → countAfter (le
     → sessionAfter (sessionOf h) c counted ≡ sessionOf (accept h c .history)
 session-follows = following.session-follows
 
+-- no more is learnt of the functions than their contracts say
+opened-of : (first left : List ℕ) (o : Answer) → Opens first left o → Opened first left o
+opened-of = tied.opened-of
+
+own-of : (s : Session) (c : Command) (lent left : List ℕ) (r : Answer) → Does s c lent left r → ByOwn s c lent left r
+own-of = tied.own-of
+
+apply-of : (s : Session) (c : Command) (lent left : List ℕ) (r : Answer) → Does s c lent left r → ByApply s c lent left r
+apply-of = tied.apply-of
+
 -- THE RUN, of the functions themselves: what is learnt of a command's own function holds where its contract does
 called : (s : Session) (c : Command) (lent left : List ℕ) (r : Answer) → Does s c lent left r → Called s c lent left r
-called s c lent left r d = inl (tied.own-of s c lent left r d)
+called s c lent left r d = inl (own-of s c lent left r d)
 
 -- calls of which one thing is known are calls of which what follows from it is known
 made-called : (n : ℕ) (s : Session) (words : List ℕ) (cs : List (Call model)) → Made model (Answered Does) n s words cs → Made model (Answered Called) n s words cs
@@ -131,7 +155,7 @@ run-called n ls r x = record {
   left = x .left;
   o = x .o;
   calls = x .calls;
-  opened = tied.opened-of (x .first) (x .left) (x .o) (x .opened);
+  opened = opened-of (x .first) (x .left) (x .o) (x .opened);
   tells = x .tells;
   made = made-called _ (x .o .session) (x .left) (x .calls) (x .made);
   long = x .long;

@@ -1,12 +1,14 @@
-// A run that is really made, so that the theorems over all runs speak of something; and the theorems, cited (proofs/Cited).
-// Each call has the session that the last one returned, and is lent the words that were opened, but for two in `elsewhere`. A second run follows a refused opening.
+// A run that is really made, so that the theorems over all runs speak of something; and the theorems, cited (proofs/Cited) and applied (proofs/Applied).
+// Each call has the session that the last one returned, and is lent the words that were opened, but for two in `elsewhere`. A second run follows a refused
+// opening, and document 01's example is written.
 ghost use mathlib.Core.Path.{_≡_};
 ghost use mathlib.Core.List.{_++_};
-ghost use lib.ListN.{length};
+ghost use lib.ListN.{length, take};
 ghost use Rattle.history.specs.Histories.{sessionOf, blank};
 ghost use Rattle.engine.specs.Contracts.{Opens, Does};
 ghost use Rattle.demands.specs.Witness as Witness;
 ghost use Rattle.demands.specs.Witness.{asked, lines, sessionLeft, unopened, RunExists};
+ghost use Rattle.transcript.specs.Examples as transcript;
 ghost use Rattle.demands.specs.Private.{Commanded};
 use history::Command;
 use history::Position;
@@ -72,4 +74,39 @@ pub fn refused_run() -> Session
     let value = engine::value(opened.session, &mut area, 5);
     let mark = engine::mark(value.session, &mut other);
     mark.session
+}
+
+// Document 01's example, through the stream program's `write`: these bytes, that output, whole.
+pub fn example(out: &mut [u8; 180364]) -> usize
+    ensures { λ r. ⌜ take r (now (out .exit)) ≡ transcript.example .output ⌝ }
+{
+    let bytes = [
+        1,
+        12,
+        0,
+        0,
+        0,
+        2,
+        1,
+        253,
+        255,
+        255,
+        255,
+        3,
+        1,
+        0,
+        0,
+        0,
+        4,
+        1,
+        0,
+        0,
+        0,
+        3,
+        1,
+        0,
+        0,
+        0,
+    ];
+    transcript::write(&bytes, out)
 }

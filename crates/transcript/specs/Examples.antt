@@ -1,4 +1,5 @@
--- Document 01, "Played examples": the bytes and the whole output of its example, and of streams with no bytes, with an unknown kind and with an argument that is cut off. A command is a line
+-- Document 01, "Played examples": the bytes and the whole output of its example, and of streams with no bytes, with an unknown kind, with a mark still active at the end and with an argument
+-- that is cut off. A command is a line
 -- here, and so is a line of the output.
 use mathlib.Core.Path.{_≡_}
 use mathlib.Core.List.{List, [], _∷_, map}
@@ -60,6 +61,17 @@ endings =
           ∷ 49 ∷ 32 ∷ 77 ∷ 32 ∷ 55 ∷ 10
           ∷ 115 ∷ 116 ∷ 111 ∷ 112 ∷ 32 ∷ 49 ∷ 32 ∷ 50 ∷ 10
           ∷ 101 ∷ 110 ∷ 100 ∷ 32 ∷ 49 ∷ 32 ∷ 48 ∷ 32 ∷ 48 ∷ 10
+          ∷ [];
+    }
+    -- a Value, a Mark that stays active, and an unknown kind, 01 07 00 00 00 02 05: taps 60, 1 V 0, 2 M 0, stop 6 2, end 2 2 1
+    ∷ record {
+      bytes = 1 ∷ 7 ∷ 0 ∷ 0 ∷ 0 ∷ 2 ∷ 5 ∷ [];
+      output =
+          116 ∷ 97 ∷ 112 ∷ 115 ∷ 32 ∷ 54 ∷ 48 ∷ 10
+          ∷ 49 ∷ 32 ∷ 86 ∷ 32 ∷ 48 ∷ 10
+          ∷ 50 ∷ 32 ∷ 77 ∷ 32 ∷ 48 ∷ 10
+          ∷ 115 ∷ 116 ∷ 111 ∷ 112 ∷ 32 ∷ 54 ∷ 32 ∷ 50 ∷ 10
+          ∷ 101 ∷ 110 ∷ 100 ∷ 32 ∷ 50 ∷ 32 ∷ 50 ∷ 32 ∷ 49 ∷ 10
           ∷ [];
     }
     -- an argument that is cut off, 03 01 00 00: taps 60, stop 0 3, end 0 0 0
