@@ -94,11 +94,11 @@ pub fours : {r : Session} (x : RunExists 575 unopened Opened Called r) → AllTo
 fours x = only-fours (x .first) (x .left) (x .o) (x .calls) (omega (arith, x .long)) (x .opened) (rw (x .long) at (x .made))
 
 -- a starred example, of any run of its commands: "V 5, M, Q 1: dip 5 at 1."
-pub dip-at-once : (first left : List ℕ) (o : Answer) (calls : List (Call model)) → length first ≡ 576 → Opened first left o
+pub minimum-at-once : (first left : List ℕ) (o : Answer) (calls : List (Call model)) → length first ≡ 576 → Opened first left o
     → Made model (Answered Called) (opening (length first) .history .words) (o .session) left calls
     → commandsOf model calls ≡ Value (pos 5) ∷ Mark ∷ Query (record { 0 = 1 }) ∷ [] → AllLent model 576 calls
     → toldTo model calls ≡ accepted ∷ accepted ∷ showing (standsAt (pos 5) (record { 0 = 1 })) ∷ []
-dip-at-once first left o calls n q m cs l = examples-given .1 .1 .1 .1 .1 .1 .1 .1 .0 first left o calls n q m cs l .tells
+minimum-at-once first left o calls n q m cs l = examples-given .1 .1 .1 .1 .1 .1 .1 .1 .0 first left o calls n q m cs l .tells
 
 -- DEMAND 1, clause by clause: of an opening
 pub opening-numbers : (first left : List ℕ) (o : Answer) → Opened first left o
