@@ -1,0 +1,56 @@
+-- The three cases of a value, as the function's two tests tell them apart, and the order of the gains over all values.
+use mathlib.Core.Path.{_≡_, refl, sym, ap}
+use mathlib.Core.Bool.{Bool, true, false}
+use mathlib.Core.Logic.{inl, inr}
+use Prim.Native.Nat.{ℕ, suc, _≤_, _<_, zero-le}
+use native.Mathlib.Nat.{le-refl, zero-add}
+use native.Mathlib.Omega.{arith}
+use lib.Dec.{T, leb, leb→le}
+use lib.IntN.{ℤ, pos, negsuc, _-ℤ_}
+use lib.Signed.{leZ, ltZ, _≤ℤ_}
+use borrow.Author.Tests.{ltb-true, ltb-false, le-leb, lt-leb}
+use Rattle.laws.proofs.Tests.{clash, lt-or-ge}
+use Rattle.gain.specs.Gains.{entryOf, gainOf}
+use Rattle.gain.proofs.Rule.{entries-fall, entry-at-most}
+
+-- a value of 0 or more
+pub full : (v : ℤ) → leZ (pos 0) v ≡ true → 32768 ≡ gainOf v
+full (pos n) e = refl
+full (negsuc k) e = clash refl (sym e)
+
+-- a value below -240
+pub silent : (v : ℤ) → ltZ v (negsuc 239) ≡ true → 0 ≡ gainOf v
+silent (pos n) e = clash refl (sym e)
+silent (negsuc k) e = rw (lt-leb (suc k) 240 (omega (arith, ltb-true 239 k e)))
+
+-- any other value is -n, with an n of at most 240
+pub record Between (v : ℤ) : Type 0 where
+  pub n : ℕ
+  pub is : pos 0 -ℤ v ≡ pos n
+  pub small : n ≤ 240
+  pub gain : entryOf n ≡ gainOf v
+
+pub between : (v : ℤ) → leZ (pos 0) v ≡ false → ltZ v (negsuc 239) ≡ false → Between v
+between (pos n) e f = clash (le-leb 0 n zero-le) e
+between (negsuc k) e f =
+    let s : suc k ≤ 240 = omega (arith, ltb-false 239 k f) in
+    record { n = suc k; is = ap pos (zero-add (suc k)); small = s; gain = rw (le-leb (suc k) 240 s) }
+
+-- no gain is above 32,768
+pub gain-at-most : (v : ℤ) → gainOf v ≤ 32768
+gain-at-most (pos n) = le-refl 32768
+gain-at-most (negsuc k) = elim (lt-or-ge 240 (suc k)) [
+  | inl h ↦ rw (lt-leb (suc k) 240 h) zero-le
+  | inr h ↦ rw (le-leb (suc k) 240 h) (entry-at-most (suc k))
+]
+
+-- a value that is no lower has a gain that is no lower
+pub gain-rises : (v w : ℤ) → v ≤ℤ w → gainOf v ≤ gainOf w
+gain-rises v (pos m) h = gain-at-most v
+gain-rises (pos n) (negsuc m) h = absurd (h .le)
+gain-rises (negsuc k) (negsuc m) h = elim (lt-or-ge 240 (suc k)) [
+  | inl s ↦ rw (lt-leb (suc k) 240 s) zero-le
+  | inr s ↦
+      let l : m ≤ k = leb→le m k (h .le) in
+      rw (le-leb (suc k) 240 s, le-leb (suc m) 240 (omega arith)) (entries-fall (suc m) (suc k) (omega arith))
+]

@@ -1,0 +1,4 @@
+pub mod Rule
+pub mod Levels
+pub mod Point
+pub mod Examples

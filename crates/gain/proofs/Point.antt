@@ -1,0 +1,31 @@
+-- Point 1 of document 02, from the laws of the rule and of the three cases.
+use mathlib.Core.Path.{_≡_, refl, sym}
+use Prim.Native.Nat.{ℕ, zero, suc, _≤_, _<_}
+use native.Mathlib.Omega.{arith}
+use lib.IntN.{pos, negℤ}
+use borrow.Author.Tests.{le-leb, lt-leb}
+use Rattle.gain.specs.Gains.{entryOf, gainOf}
+use Rattle.gain.specs.Promises.{Point1}
+use Rattle.gain.proofs.Rule.{largest-of, largest-only, entry-largest, entries-fall, entry-is}
+use Rattle.gain.proofs.Levels.{gain-at-most, gain-rises}
+
+entries : (n : ℕ) → n ≤ 240 → gainOf (negℤ (pos n)) ≡ entryOf n
+entries zero h = sym (entry-is 0 32768 refl)
+entries (suc k) h = rw (le-leb (suc k) 240 h)
+
+low : (n : ℕ) → 240 < n → gainOf (negℤ (pos n)) ≡ 0
+low zero h = absurd (omega arith)
+low (suc k) h = rw (lt-leb (suc k) 240 h)
+
+pub point-1 : Point1
+point-1 = record {
+  rule = λ n h. entry-largest n;
+  only = λ n g h l. largest-only n g (entryOf n) l (entry-largest n);
+  largest = largest-of;
+  falls = λ n m h k. entries-fall n m h;
+  high = λ n. refl;
+  entries = entries;
+  low = low;
+  within = gain-at-most;
+  rises = gain-rises;
+}

@@ -1,0 +1,23 @@
+-- Document 02, point 1: what holds of the entries and the gains that Gains defines. The theorem is `point-1` of proofs/Point.
+use mathlib.Core.Path.{_≡_}
+use Prim.Native.Nat.{ℕ, _*_, _^_, _≤_, _<_}
+use lib.IntN.{ℤ, pos, negℤ}
+use lib.Signed.{_≤ℤ_}
+use Rattle.gain.specs.Gains.{Largest, entryOf, gainOf}
+
+pub record Point1 : Type 0 where
+  -- "The list's rule holds for each entry", and of no other number
+  pub rule : (n : ℕ) → n ≤ 240 → Largest n (entryOf n)
+  pub only : (n g : ℕ) → n ≤ 240 → Largest n g → g ≡ entryOf n
+  -- "the largest whole g with g^80 × 10^n at most 32,768^80": whatever is so, is at most g
+  pub largest : (n g h : ℕ) → Largest n g → h ^ 80 * 10 ^ n ≤ 32768 ^ 80 → h ≤ g
+  -- "the gains never rise as n grows"
+  pub falls : (n m : ℕ) → n ≤ m → m ≤ 240 → entryOf m ≤ entryOf n
+  -- "A dip value of 0 or more gets 32,768; a value −n down to −240 gets entry n; anything lower gets 0." 0 is both 0 or more and −n with n = 0.
+  pub high : (n : ℕ) → gainOf (pos n) ≡ 32768
+  pub entries : (n : ℕ) → n ≤ 240 → gainOf (negℤ (pos n)) ≡ entryOf n
+  pub low : (n : ℕ) → 240 < n → gainOf (negℤ (pos n)) ≡ 0
+  -- "a gain from 0 to 32,768"
+  pub within : (v : ℤ) → gainOf v ≤ 32768
+  -- so a value that is no lower has a gain that is no lower, over all values
+  pub rises : (v w : ℤ) → v ≤ℤ w → gainOf v ≤ gainOf w
