@@ -1,9 +1,9 @@
 -- The three cases of a value, as the function's two tests tell them apart, and the order of the gains over all values.
-use mathlib.Core.Path.{_≡_, refl, sym, ap}
+use mathlib.Core.Path.{_≡_, refl, sym}
 use mathlib.Core.Bool.{Bool, true, false}
 use mathlib.Core.Logic.{inl, inr}
-use Prim.Native.Nat.{ℕ, suc, _≤_, _<_, zero-le}
-use native.Mathlib.Nat.{le-refl, zero-add}
+use Prim.Native.Nat.{ℕ, suc, _+_, _≤_, zero-le}
+use native.Mathlib.Nat.{le-refl}
 use native.Mathlib.Omega.{arith}
 use lib.Dec.{T, leb, leb→le}
 use lib.IntN.{ℤ, pos, negsuc, _-ℤ_}
@@ -18,23 +18,23 @@ pub full : (v : ℤ) → leZ (pos 0) v ≡ true → 32768 ≡ gainOf v
 full (pos n) e = refl
 full (negsuc k) e = clash refl (sym e)
 
--- a value below -240
-pub silent : (v : ℤ) → ltZ v (negsuc 239) ≡ true → 0 ≡ gainOf v
-silent (pos n) e = clash refl (sym e)
-silent (negsuc k) e = rw (lt-leb (suc k) 240 (omega (arith, ltb-true 239 k e)))
+-- a value below a bound of -240 or less
+pub silent : (v : ℤ) {b : ℕ} → 240 ≤ suc b → ltZ v (negsuc b) ≡ true → 0 ≡ gainOf v
+silent (pos n) h e = clash refl (sym e)
+silent (negsuc k) {b} h e = rw (lt-leb (suc k) 240 (omega (arith, ltb-true b k e)))
 
--- any other value is -n, with an n of at most 240
+-- a value below 0, and not below a bound of -240 or more, is -n, with an n of at most 240
 pub record Between (v : ℤ) : Type 0 where
   pub n : ℕ
-  pub is : pos 0 -ℤ v ≡ pos n
+  pub less : (a : ℕ) → pos a -ℤ v ≡ pos (a + n)
   pub small : n ≤ 240
   pub gain : entryOf n ≡ gainOf v
 
-pub between : (v : ℤ) → leZ (pos 0) v ≡ false → ltZ v (negsuc 239) ≡ false → Between v
-between (pos n) e f = clash (le-leb 0 n zero-le) e
-between (negsuc k) e f =
-    let s : suc k ≤ 240 = omega (arith, ltb-false 239 k f) in
-    record { n = suc k; is = ap pos (zero-add (suc k)); small = s; gain = rw (le-leb (suc k) 240 s) }
+pub between : (v : ℤ) {b : ℕ} → suc b ≤ 240 → leZ (pos 0) v ≡ false → ltZ v (negsuc b) ≡ false → Between v
+between (pos n) h e f = clash (le-leb 0 n zero-le) e
+between (negsuc k) {b} h e f =
+    let s : suc k ≤ 240 = omega (arith, ltb-false b k f) in
+    record { n = suc k; less = λ a. refl; small = s; gain = rw (le-leb (suc k) 240 s) }
 
 -- no gain is above 32,768
 pub gain-at-most : (v : ℤ) → gainOf v ≤ 32768

@@ -1,0 +1,32 @@
+#!/usr/bin/env python3
+"""What the C program tests/firmware/gain.c prints, worked out from document 02, point 1, in whole numbers. Nothing here is taken from the crate `gain`.
+
+  python3 tests/gain.py | diff - tests/firmware/gain.out
+"""
+# The values from -300 to 10; both ends of a signed 32-bit number and their neighbours; then values whose lower 16 or 8 bits alone would be another value:
+# 0, -80, -80 and 0 again, -32768, and 0 and -80 in 8 bits.
+VALUES = [*range(-300, 11), -2**31, -2**31 + 1, 2**31 - 2, 2**31 - 1, -65536, -65616, 65456, 65536, 32768, -512, -336]
+
+
+def entries():
+    """Entry n, from 0 to 240, is the largest whole g with g^80 * 10^n at most 32768^80: it is looked for from the entry before on, downwards."""
+    g = 32768
+    for n in range(241):
+        while g**80 * 10**n > 32768**80:
+            g -= 1
+        yield g
+
+
+ENTRIES = list(entries())
+
+
+def gain(value):
+    if value >= 0:
+        return 32768
+    if value >= -240:
+        return ENTRIES[-value]
+    return 0
+
+
+for value in VALUES:
+    print(value, gain(value))
