@@ -1,21 +1,26 @@
 -- Document 02, point 1, "Layer gain from the dip": "The mixer wants a gain from 0 to 32,768."
-use mathlib.Core.Bool.{Bool, cond}
-use Prim.Native.Nat.{ℕ, zero, suc, _*_, _^_, _≤_, _<_}
+use mathlib.Core.Path.{_≡_}
+use mathlib.Core.Bool.{Bool, true, false, cond}
+use Prim.Native.Nat.{ℕ, zero, suc, _*_, _^_}
 use lib.Dec.{leb}
 use lib.IntN.{ℤ, pos, negsuc}
 
--- "the largest whole g with g^80 × 10^n at most 32,768^80": g is so, and g + 1 is not
-pub record Largest (n g : ℕ) : Type 0 where
-  pub fits : g ^ 80 * 10 ^ n ≤ 32768 ^ 80
-  pub next : 32768 ^ 80 < suc g ^ 80 * 10 ^ n
+-- "g^80 × 10^n at most 32,768^80"
+abbrev pub fits : ℕ → ℕ → Bool
+fits n g = leb (g ^ 80 * 10 ^ n) (32768 ^ 80)
 
--- the largest of the whole numbers up to a bound with which that is so, gone through from the bound down
+-- "the largest whole g with" that: g fits, and g + 1 does not
+pub record Largest (n g : ℕ) : Type 0 where
+  pub this : fits n g ≡ true
+  pub next : fits n (suc g) ≡ false
+
+-- the largest number up to b that fits, looked for from b down; 0 fits always
 unfoldable pub largestTo : ℕ → ℕ → ℕ
 largestTo n zero = zero
-largestTo n (suc g) = cond (leb (suc g ^ 80 * 10 ^ n) (32768 ^ 80)) (suc g) (largestTo n g)
+largestTo n (suc b) = cond (fits n (suc b)) (suc b) (largestTo n b)
 
--- "Entry n of a constant list of 241 gains, n from 0 to 240, is the largest whole g with g^80 × 10^n at most 32,768^80." No g above 32,768 is so, with any n.
--- That this is `Largest`, and nothing else is: `entry-largest` and `largest-only` of proofs/Rule.
+-- "Entry n of a constant list of 241 gains, n from 0 to 240, is the largest whole g with g^80 × 10^n at most 32,768^80." Nothing above 32,768 fits, whatever n is:
+-- the entry is `Largest`, and no other number is (`Promises.Point1`, `rule` and `only`).
 unfoldable pub entryOf : ℕ → ℕ
 entryOf n = largestTo n 32768
 

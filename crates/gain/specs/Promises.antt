@@ -1,16 +1,17 @@
 -- Document 02, point 1: what holds of the entries and the gains that Gains defines. The theorem is `point-1` of proofs/Point.
 use mathlib.Core.Path.{_≡_}
-use Prim.Native.Nat.{ℕ, _*_, _^_, _≤_, _<_}
+use mathlib.Core.Bool.{true}
+use Prim.Native.Nat.{ℕ, _≤_, _<_}
 use lib.IntN.{ℤ, pos, negℤ}
 use lib.Signed.{_≤ℤ_}
-use Rattle.gain.specs.Gains.{Largest, entryOf, gainOf}
+use Rattle.gain.specs.Gains.{fits, Largest, entryOf, gainOf}
 
 pub record Point1 : Type 0 where
   -- "The list's rule holds for each entry", and of no other number
   pub rule : (n : ℕ) → n ≤ 240 → Largest n (entryOf n)
   pub only : (n g : ℕ) → n ≤ 240 → Largest n g → g ≡ entryOf n
-  -- "the largest whole g with g^80 × 10^n at most 32,768^80": whatever is so, is at most g
-  pub largest : (n g h : ℕ) → Largest n g → h ^ 80 * 10 ^ n ≤ 32768 ^ 80 → h ≤ g
+  -- "the largest whole g with g^80 × 10^n at most 32,768^80": whatever fits is at most g
+  pub largest : (n g h : ℕ) → Largest n g → fits n h ≡ true → h ≤ g
   -- "the gains never rise as n grows"
   pub falls : (n m : ℕ) → n ≤ m → m ≤ 240 → entryOf m ≤ entryOf n
   -- "A dip value of 0 or more gets 32,768; a value −n down to −240 gets entry n; anything lower gets 0." 0 is both 0 or more and −n with n = 0.
