@@ -1,8 +1,8 @@
 /*
- * Filkotar for C firmware: what libfilkotar.a has, which tools/library builds.
+ * Filkotar for C firmware. This header declares the functions of libfilkotar.a, which tools/library builds for x86-64 (System V calling convention).
  *
- * Each function is proved to keep the promise beside it for every argument, and to return. It takes no memory but its own stack, needs no other library
- * and keeps nothing between calls.
+ * Each function is proved to keep the promise beside it for every argument, and to return. It writes no memory but its own stack and keeps nothing
+ * between calls. The library needs no other.
  */
 #ifndef FILKOTAR_H
 #define FILKOTAR_H
@@ -14,14 +14,14 @@ extern "C" {
 #endif
 
 /*
- * A layer's gain, from 0 to 32768, for its dip: the least headroom since the mark, in quarter decibels.
+ * A layer's gain, from 0 to 32768, for its dip value: the least headroom from the layer's tap on, in quarter decibels.
  *
  *     value          gain
  *     0 or more      32768
- *     -1 to -240     with n = -value, the largest whole g with g^80 * 10^n at most 32768^80: n quarter decibels below 32768, rounded down
+ *     -1 to -240     with n = -value, the largest whole g with g^80 * 10^n at most 32768^80: 32768 lowered by n quarter decibels, rounded down
  *     below -240     0
  *
- * So -80 gives 3276, -240 gives 32 and -241 gives 0. Every value has its gain, INT32_MIN and INT32_MAX too, and a higher value never a lower one.
+ * So -80 gives 3276, -240 gives 32 and -241 gives 0. Every value has a gain, INT32_MIN and INT32_MAX too. A higher value never has a lower gain.
  */
 uint16_t filkotar_gain(int32_t value);
 

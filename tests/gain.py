@@ -3,9 +3,9 @@
 
   python3 tests/gain.py | diff - tests/firmware/gain.out
 """
-# The values from -300 to 10; both ends of a signed 32-bit number and their neighbours; then values whose lower 16 or 8 bits alone would be another value:
-# 0, -80, -80 and 0 again, -32768, and 0 and -80 in 8 bits.
-VALUES = [*range(-300, 11), -2**31, -2**31 + 1, 2**31 - 2, 2**31 - 1, -65536, -65616, 65456, 65536, 32768, -512, -336]
+# The values from -300 to 10; both ends of a signed 32-bit number and their neighbours; then values whose lower bits alone have another gain: they are
+# 0, -80, -80, -1 and -32768 in 16 bits, and 0 and -80 in 8.
+VALUES = [*range(-300, 11), -2**31, -2**31 + 1, 2**31 - 2, 2**31 - 1, -65536, -65616, 65456, 65535, 32768, -512, -336]
 
 
 def entries():

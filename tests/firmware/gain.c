@@ -13,7 +13,7 @@ int main(void)
 {
     static const int32_t others[] = {
         INT32_MIN, INT32_MIN + 1, INT32_MAX - 1, INT32_MAX, /* both ends */
-        -65536, -65616, 65456, 65536, 32768, -512, -336 /* another value in their lower 16 or 8 bits */
+        -65536, -65616, 65456, 65535, 32768, -512, -336 /* another gain by their lower 16 or 8 bits */
     };
     size_t i;
     int32_t value;

@@ -1,6 +1,5 @@
 -- The worked numbers: each entry is tested by the rule, which has one number only.
 use mathlib.Core.Path.{refl}
-use Rattle.gain.specs.Gains.{gainOf}
 use Rattle.gain.specs.Examples.{AllWorked, examples}
 use Rattle.gain.proofs.Rule.{entry-is}
 

@@ -1,4 +1,4 @@
 pub mod Rule
-pub mod Levels
+pub mod Cases
 pub mod Point
 pub mod Examples

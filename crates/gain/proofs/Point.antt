@@ -6,8 +6,8 @@ use lib.IntN.{pos, negℤ}
 use borrow.Author.Tests.{le-leb, lt-leb}
 use Rattle.gain.specs.Gains.{entryOf, gainOf}
 use Rattle.gain.specs.Promises.{Point1}
-use Rattle.gain.proofs.Rule.{largest-of, largest-only, entry-largest, entries-fall, entry-is}
-use Rattle.gain.proofs.Levels.{gain-at-most, gain-rises}
+use Rattle.gain.proofs.Rule.{largest-of, largest-only, entry-largest, entries-never-rise, entry-is}
+use Rattle.gain.proofs.Cases.{gain-at-most, gain-never-falls}
 
 entries : (n : ℕ) → n ≤ 240 → gainOf (negℤ (pos n)) ≡ entryOf n
 entries zero h = sym (entry-is 0 32768 refl)
@@ -19,13 +19,13 @@ low (suc k) h = rw (lt-leb (suc k) 240 h)
 
 pub point-1 : Point1
 point-1 = record {
-  rule = λ n h. entry-largest n;
-  only = λ n g h l. largest-only n g (entryOf n) l (entry-largest n);
+  rule = entry-largest;
+  only = λ n g l. largest-only n g (entryOf n) l (entry-largest n);
   largest = largest-of;
-  falls = λ n m h k. entries-fall n m h;
+  never-rises = entries-never-rise;
   high = λ n. refl;
   entries = entries;
   low = low;
   within = gain-at-most;
-  rises = gain-rises;
+  never-falls = gain-never-falls;
 }

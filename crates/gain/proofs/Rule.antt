@@ -46,8 +46,8 @@ unfolding entryOf
 entry-largest n = found n 32768 (refuted (fits n 32769) (λ f. clash (smaller-fits {n = 0} {m = n} (le-refl 32769) zero-le f) refl))
 
 -- the entries never rise
-pub entries-fall : (n m : ℕ) → n ≤ m → entryOf m ≤ entryOf n
-entries-fall n m k = largest-of n (entryOf n) (entryOf m) (entry-largest n) (smaller-fits (le-refl (entryOf m)) k (entry-largest m .this))
+pub entries-never-rise : (n m : ℕ) → n ≤ m → entryOf m ≤ entryOf n
+entries-never-rise n m k = largest-of n (entryOf n) (entryOf m) (entry-largest n) (smaller-fits (le-refl (entryOf m)) k (entry-largest m .this))
 
 -- the rule as a test of an entry's number and the entry
 abbrev pub obeys : ℕ → ℕ → Bool
@@ -65,7 +65,7 @@ entry-is n g e = largest-only n (entryOf n) g (entry-largest n) (largest-tested 
 
 -- no entry is above 32,768, which is entry 0
 pub entry-at-most : (n : ℕ) → entryOf n ≤ 32768
-entry-at-most n = rw (entry-is 0 32768 refl) at (entries-fall 0 n zero-le)
+entry-at-most n = rw (entry-is 0 32768 refl) at (entries-never-rise 0 n zero-le)
 
 -- a table of 241 entries that passes the test has at n the largest number that fits
 pub table-obeys : (table : List ℕ) → every obeys 0 table ≡ true → length table ≡ 241 → (n : ℕ) → n ≤ 240 → Largest n (getD table n 0)

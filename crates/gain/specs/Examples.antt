@@ -1,4 +1,4 @@
--- Document 02, point 1: its worked numbers, and those beside them and at the ends. The theorem is `examples-worked` of proofs/Examples.
+-- Document 02, point 1: its worked numbers, and those around 0 and at both ends of the values. The theorem is `examples-worked` of proofs/Examples.
 use mathlib.Core.Path.{_≡_}
 use mathlib.Core.List.{List, [], _∷_, map}
 use Prim.Native.Nat.{ℕ}
@@ -10,11 +10,11 @@ pub record Example : Type 0 where
   pub value : ℤ
   pub gain : ℕ
 
--- what the definition makes of an example's value
+-- an example's value with the gain that the definition gives it
 abbrev pub worked : Example → Example
 worked e = record { value = e .value; gain = gainOf (e .value) }
 
--- each example of a list is as the definition makes it
+-- each example of a list has the gain that the definition gives
 abbrev pub AllWorked : List Example → Type 0
 AllWorked es = map worked es ≡ es
 

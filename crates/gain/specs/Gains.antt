@@ -24,7 +24,7 @@ largestTo n (suc b) = cond (fits n (suc b)) (suc b) (largestTo n b)
 unfoldable pub entryOf : ℕ → ℕ
 entryOf n = largestTo n 32768
 
--- "A dip value of 0 or more gets 32,768; a value −n down to −240 gets entry n; anything lower gets 0."
+-- "A dip value of 0 or more gets 32,768; a value −n down to −240 gets entry n; anything lower gets 0." `pos n` is n, and `negsuc k` is −n with n = k + 1.
 abbrev pub gainOf : ℤ → ℕ
 gainOf (pos n) = 32768
 gainOf (negsuc k) = cond (leb (suc k) 240) (entryOf (suc k)) 0

@@ -3,6 +3,7 @@ ghost use mathlib.Core.Path.{_≡_};
 ghost use Prim.Native.Nat.{_≤_};
 ghost use Rattle.gain.specs.Gains.{Largest, gainOf};
 
+// "Entry n of a constant list of 241 gains, n from 0 to 240, is the largest whole g with g^80 × 10^n at most 32,768^80."
 const GAINS: [u16; 241] = [
     32768,
     31838,
@@ -247,7 +248,7 @@ const GAINS: [u16; 241] = [
     32,
 ];
 
-// Entry n of the list obeys the list's rule.
+// "The list's rule holds for each entry": what stands at n is the largest.
 fn entry(n: usize) -> u16
     requires { ⌜ n ≤ 240 ⌝ }
     ensures { λ r. ⌜ Largest n r ⌝ }
@@ -255,7 +256,7 @@ fn entry(n: usize) -> u16
     GAINS[n]
 }
 
-// The gain of a value. The least value has no negative in i32: what is below -240 has gone before the sign is changed.
+// The gain of a value. The least value has no negative in i32, and needs none: the second test has returned for it before the sign is changed.
 pub fn gain(v: i32) -> u16
     ensures { λ r. ⌜ r ≡ gainOf v ⌝ }
 {

@@ -1,2 +1,2 @@
-// General laws that the proofs of more than one crate cite: tests that are true or false, numbers compared, and the order of ℤ. Nothing in
-// them is of the engine. The laws are in proofs/; there is no code here.
+// General laws, of which nothing is the engine's: tests that are true or false, numbers compared, the order of ℤ, and a rule tested once over a table. The laws
+// are in proofs/; there is no code here.

@@ -3,11 +3,9 @@ use mir.Facts.{toZ-ofZ}
 use Rattle.firmware.proofs.filkotar_gain.Statement.{statement}
 use Rattle.firmware.proofs.filkotar_gain.Tie as tie
 
--- src/lib.rt:10:5
 gain-requires : tie.Need-gain-requires
 gain-requires c κs = search needs
 
--- src/lib.rt:6:1
 returns : tie.Need-returns
 returns c = simp (toZ-ofZ, c .before .fits .v) at (c .gain .ensures)
 

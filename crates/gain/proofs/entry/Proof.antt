@@ -1,20 +1,16 @@
 use borrow.Author.Needs.{needs}
-use mathlib.Core.Path.{refl}
 use Rattle.gain.proofs.Rule.{table-obeys}
 use Rattle.gain.proofs.entry.Statement.{statement}
 use Rattle.gain.proofs.entry.Tie as tie
-use Rattle.gain.proofs.entry.Reads as reads
-use Rattle.gain.proofs.entry.Lts as lts
 
--- src/lib.rt:39:5
 mul-result : tie.Need-mul-result
 mul-result c = search needs
 
--- src/lib.rt:39:5
 array-read-result : tie.Need-array-read-result
 array-read-result c = search needs
 
--- src/lib.rt:35:1
+-- The list is read off the code, and not written down again: `search` finds it in the goal, and computes the rule's test over all of it, once, as the premise
+-- of `table-obeys`.
 returns : tie.Need-returns
 returns c = search (table-obeys, c .pre)
 

@@ -11,7 +11,7 @@ use mir.Facts.{toZ-ofZ}
 use borrow.Author.Tests.{leb-true}
 use Rattle.gain.specs.Gains.{entryOf}
 use Rattle.gain.proofs.Rule.{entry-largest, largest-only}
-use Rattle.gain.proofs.Levels.{full, silent, Between, between}
+use Rattle.gain.proofs.Cases.{full, silent, Between, between}
 use Rattle.gain.proofs.gain.Statement.{statement}
 use Rattle.gain.proofs.gain.Tie as tie
 
@@ -28,27 +28,21 @@ fits-of c a e = record { sfits = omega (arith, leb-true a 240 e, between-of c .s
 less-of : (c : tie.Else2) (a : ℕ) → leb a 240 ≡ true → toZ w32 (ofZ w32 (pos a -ℤ c .before .before .args .v)) ≡ pos (a + between-of c .n)
 less-of c a e = rw (between-of c .less a) (toZ-ofZ (fits-of c a e))
 
--- src/lib.rt:47:9
 returns : tie.Need-returns
 returns c = full (c .before .args .v) (simp (toZ-ofZ, c .before .fits .v) at (c .if1 .taken))
 
--- src/lib.rt:50:9
 returns-2 : tie.Need-returns-2
 returns-2 c = silent (c .before .before .args .v) (lit≤ tt) (simp (toZ-ofZ, c .before .before .fits .v) at (c .if2 .taken))
 
--- src/lib.rt:52:12
 sub-entry : tie.Need-sub-entry
 sub-entry c = simp (toZ-ofZ, c .before .before .fits .v, between-of c .less) (fits-of c _ refl)
 
--- src/lib.rt:52:11
 cast-entry : tie.Need-cast-entry
 cast-entry c = simp (toZ-ofZ, c .before .before .fits .v, less-of c) (tt, record { fits = omega (arith, between-of c .small) })
 
--- src/lib.rt:52:5
 entry-requires : tie.Need-entry-requires
 entry-requires c κs = simp (toZ-ofZ, c .before .before .fits .v, less-of c) (omega (arith, between-of c .small))
 
--- src/lib.rt:43:1
 returns-3 : tie.Need-returns-3
 returns-3 c =
     let b = between-of (c .before) in

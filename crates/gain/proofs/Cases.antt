@@ -1,17 +1,18 @@
--- The three cases of a value, as the function's two tests tell them apart, and the order of the gains over all values.
+-- The three cases of a value, as the function's two tests tell them apart, and the order of the gains over all values. The bound of the second test, and the number
+-- that the value is taken from, are whatever the code has: what is asked of them is a premise.
 use mathlib.Core.Path.{_≡_, refl, sym}
-use mathlib.Core.Bool.{Bool, true, false}
+use mathlib.Core.Bool.{true, false}
 use mathlib.Core.Logic.{inl, inr}
 use Prim.Native.Nat.{ℕ, suc, _+_, _≤_, zero-le}
 use native.Mathlib.Nat.{le-refl}
 use native.Mathlib.Omega.{arith}
-use lib.Dec.{T, leb, leb→le}
+use lib.Dec.{leb→le}
 use lib.IntN.{ℤ, pos, negsuc, _-ℤ_}
 use lib.Signed.{leZ, ltZ, _≤ℤ_}
 use borrow.Author.Tests.{ltb-true, ltb-false, le-leb, lt-leb}
 use Rattle.laws.proofs.Tests.{clash, lt-or-ge}
 use Rattle.gain.specs.Gains.{entryOf, gainOf}
-use Rattle.gain.proofs.Rule.{entries-fall, entry-at-most}
+use Rattle.gain.proofs.Rule.{entries-never-rise, entry-at-most}
 
 -- a value of 0 or more
 pub full : (v : ℤ) → leZ (pos 0) v ≡ true → 32768 ≡ gainOf v
@@ -44,13 +45,13 @@ gain-at-most (negsuc k) = elim (lt-or-ge 240 (suc k)) [
   | inr h ↦ rw (le-leb (suc k) 240 h) (entry-at-most (suc k))
 ]
 
--- a value that is no lower has a gain that is no lower
-pub gain-rises : (v w : ℤ) → v ≤ℤ w → gainOf v ≤ gainOf w
-gain-rises v (pos m) h = gain-at-most v
-gain-rises (pos n) (negsuc m) h = absurd (h .le)
-gain-rises (negsuc k) (negsuc m) h = elim (lt-or-ge 240 (suc k)) [
+-- the gain never falls as the value grows
+pub gain-never-falls : (v w : ℤ) → v ≤ℤ w → gainOf v ≤ gainOf w
+gain-never-falls v (pos m) h = gain-at-most v
+gain-never-falls (pos n) (negsuc m) h = absurd (h .le)
+gain-never-falls (negsuc k) (negsuc m) h = elim (lt-or-ge 240 (suc k)) [
   | inl s ↦ rw (lt-leb (suc k) 240 s) zero-le
   | inr s ↦
       let l : m ≤ k = leb→le m k (h .le) in
-      rw (le-leb (suc k) 240 s, le-leb (suc m) 240 (omega arith)) (entries-fall (suc m) (suc k) (omega arith))
+      rw (le-leb (suc k) 240 s, le-leb (suc m) 240 (omega arith)) (entries-never-rise (suc m) (suc k) (omega arith))
 ]
