@@ -1,8 +1,11 @@
 #!/usr/bin/env python3
-"""What the C program tests/firmware/gain.c prints, worked out from document 02, point 1, in whole numbers. Nothing here is taken from the crate `gain`.
+"""What the C programs of tests/firmware print, worked out from document 02, point 1, in whole numbers. Nothing here is taken from the crate `gain`.
 
-  python3 tests/gain.py | diff - tests/firmware/gain.out
+  python3 tests/gain.py gain  | diff - tests/firmware/gain.out
+  python3 tests/gain.py every | diff - tests/firmware/every.out
 """
+import sys
+
 # The values from -300 to 10; both ends of a signed 32-bit number and their neighbours; then values whose lower bits alone have another gain: they are
 # 0, -80, -80, -1 and -32768 in 16 bits, and 0 and -80 in 8.
 VALUES = [*range(-300, 11), -2**31, -2**31 + 1, 2**31 - 2, 2**31 - 1, -65536, -65616, 65456, 65535, 32768, -512, -336]
@@ -28,5 +31,19 @@ def gain(value):
     return 0
 
 
-for value in VALUES:
-    print(value, gain(value))
+def some():
+    """Each of VALUES, and its gain."""
+    for value in VALUES:
+        yield value, gain(value)
+
+
+def changes():
+    """The least value, and each value whose gain is not that of the value before. Below -240 and from 0 on there is none."""
+    yield -2**31, gain(-2**31)
+    for value in range(-240, 1):
+        if gain(value) != gain(value - 1):
+            yield value, gain(value)
+
+
+for line in {'gain': some, 'every': changes}[sys.argv[1]]():
+    print(*line)

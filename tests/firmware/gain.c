@@ -1,12 +1,16 @@
 /* Prints values and their gains, as the pedal's C firmware is given them. tests/gain.py works out the same lines. */
 #include "filkotar.h"
+#include "filkotar.h" /* a second time changes nothing */
 
 #include <inttypes.h>
 #include <stdio.h>
 
+/* the types that are declared are those that are promised */
+static uint16_t (*const gain)(int32_t) = filkotar_gain;
+
 static void print(int32_t value)
 {
-    printf("%" PRId32 " %" PRIu16 "\n", value, filkotar_gain(value));
+    printf("%" PRId32 " %" PRIu16 "\n", value, gain(value));
 }
 
 int main(void)
