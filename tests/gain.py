@@ -38,12 +38,15 @@ def some():
 
 
 def changes():
-    """The least value, and each value whose gain is not that of the value before. Below -240 and from 0 on there is none."""
+    """The least value, and each value whose gain is not that of the value before. There is none below -240, nor above 0."""
     yield -2**31, gain(-2**31)
     for value in range(-240, 1):
         if gain(value) != gain(value - 1):
             yield value, gain(value)
 
 
-for line in {'gain': some, 'every': changes}[sys.argv[1]]():
+LINES = {'gain': some, 'every': changes}
+if len(sys.argv) != 2 or sys.argv[1] not in LINES:
+    sys.exit(__doc__)
+for line in LINES[sys.argv[1]]():
     print(*line)

@@ -1,4 +1,4 @@
--- The rule of an entry. The product g ^ 80 * 10 ^ n grows with g and with n, so where a number fits, every smaller one does, with every smaller n too. Hence
+-- The rule of an entry. The product g ^ 80 * 10 ^ n never falls as g or n grows, so where a number fits, every smaller one does, with every smaller n too. Hence
 -- what fits is at most the largest, there is one largest only, and with a larger n it is no larger. Going down from a number above which nothing fits finds it.
 use mathlib.Core.Path.{_≡_, refl}
 use mathlib.Core.Bool.{Bool, true, false, not, _&&_, cond}

@@ -19,8 +19,8 @@ unfoldable pub largestTo : ℕ → ℕ → ℕ
 largestTo n zero = zero
 largestTo n (suc b) = cond (fits n (suc b)) (suc b) (largestTo n b)
 
--- "Entry n of a constant list of 241 gains, n from 0 to 240, is the largest whole g with g^80 × 10^n at most 32,768^80." Nothing above 32,768 fits, whatever n is:
--- the entry is `Largest`, and no other number is (`Promises.Point1`, `rule` and `only`).
+-- "Entry n of a constant list of 241 gains, n from 0 to 240, is the largest whole g with g^80 × 10^n at most 32,768^80." Nothing above 32,768 fits, whatever n
+-- is, so the search misses nothing: the entry is `Largest`, and no other number is (`Promises.Point1`, `rule` and `only`).
 unfoldable pub entryOf : ℕ → ℕ
 entryOf n = largestTo n 32768
 

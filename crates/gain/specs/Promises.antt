@@ -8,7 +8,7 @@ use Rattle.gain.specs.Gains.{fits, Largest, entryOf, gainOf}
 
 -- the clauses on entries hold for every n, of which the list has those up to 240
 pub record Point1 : Type 0 where
-  -- "The list's rule holds for each entry", and of no other number. Of the constant list GAINS in src/lib.rt it is the promise of `entry` there.
+  -- "The list's rule holds for each entry", and for no other number. Of the constant list GAINS in src/lib.rt it is the promise of `entry` there.
   pub rule : (n : ℕ) → Largest n (entryOf n)
   pub only : (n g : ℕ) → Largest n g → g ≡ entryOf n
   -- "the largest whole g with g^80 × 10^n at most 32,768^80": whatever fits is at most g

@@ -1,4 +1,4 @@
-// Document 02, point 1: the gain that the mixer sets for a dip value, in parts of 32,768.
+// Document 02, point 1: the gain that the mixer wants for a dip value, in parts of 32,768.
 ghost use mathlib.Core.Path.{_≡_};
 ghost use Prim.Native.Nat.{_≤_};
 ghost use Rattle.gain.specs.Gains.{Largest, gainOf};

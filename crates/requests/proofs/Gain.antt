@@ -1,5 +1,5 @@
 -- POINT 1 of document 02. Its theorem and its worked numbers are cited under their statements; and each clause is used, of the rule in plain numbers, and of what
--- C is told. So none can be dropped, and a hypothesis that is added to one of them, or a way out, is missing here.
+-- C is told. So a clause that is dropped, or that gains a hypothesis or an alternative, no longer proves what stands here.
 use mathlib.Core.Path.{_≡_, ap, _∙_}
 use mathlib.Core.List.{[], _∷_, map}
 use Prim.Native.Nat.{ℕ, suc, _*_, _^_, _≤_, _<_}
