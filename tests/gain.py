@@ -38,11 +38,12 @@ def some():
 
 
 def changes():
-    """The least value, and each value whose gain is not that of the value before. There is none below -240, nor above 0."""
+    """The least value, and each value whose gain is not that of the value before: there is none below -240, nor above 0. Last how many values there are."""
     yield -2**31, gain(-2**31)
     for value in range(-240, 1):
         if gain(value) != gain(value - 1):
             yield value, gain(value)
+    yield 2**32, 'values'
 
 
 LINES = {'gain': some, 'every': changes}

@@ -8,6 +8,7 @@ use Rattle.gain.specs.Gains.{entryOf, gainOf}
 use Rattle.gain.specs.Promises.{Point1}
 use Rattle.gain.proofs.Rule.{largest-of, largest-only, entry-largest, entries-never-rise, entry-is}
 use Rattle.gain.proofs.Cases.{gain-at-most, gain-never-falls}
+use Rattle.gain.proofs.entry.Reads as reads
 
 entries : (n : ℕ) → n ≤ 240 → gainOf (negℤ (pos n)) ≡ entryOf n
 entries zero h = sym (entry-is 0 32768 refl)
@@ -16,6 +17,13 @@ entries (suc k) h = rw (le-leb (suc k) 240 h)
 low : (n : ℕ) → 240 < n → gainOf (negℤ (pos n)) ≡ 0
 low zero h = absurd (omega arith)
 low (suc k) h = rw (lt-leb (suc k) 240 h)
+
+-- of the code's own list: `entry`, whose contract is read as it stands in the source, may be asked for each n up to 240, and gives what the definition gives
+entry-asked : (n : ℕ) → n ≤ 240 → reads.Asked tt (n, tt)
+entry-asked n h = h
+
+entry-told : (n r : ℕ) → reads.Learnt tt (n, tt) r (n, tt) → r ≡ entryOf n
+entry-told n r l = largest-only n r (entryOf n) l (entry-largest n)
 
 pub point-1 : Point1
 point-1 = record {

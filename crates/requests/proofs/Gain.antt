@@ -1,16 +1,20 @@
 -- POINT 1 of document 02. Its theorem and its worked numbers are cited under their statements; and each clause is used, of the rule in plain numbers, and of what
 -- C is told. So a clause that is dropped, or that gains a hypothesis or an alternative, no longer proves what stands here.
-use mathlib.Core.Path.{_≡_, ap, _∙_}
+use mathlib.Core.Path.{_≡_, refl, ap, _∙_}
 use mathlib.Core.List.{[], _∷_, map}
 use Prim.Native.Nat.{ℕ, suc, _*_, _^_, _≤_, _<_}
 use lib.IntN.{ℤ, pos, negℤ}
 use lib.Signed.{_≤ℤ_}
+use mir.Syntax.{w16, w32}
 use borrow.Author.Tests.{leb-true, leb-false, le-leb, lt-leb}
+use borrow.Fn.Kinds.{pSNum, rNum}
 use Rattle.gain.specs.Gains.{entryOf, gainOf}
 use Rattle.gain.specs.Promises.{Point1}
 use Rattle.gain.specs.Examples.{Example, AllWorked, examples}
 use Rattle.gain.proofs.Point as point
 use Rattle.gain.proofs.Examples as worked
+use Rattle.gain.proofs.gain.Reads as gain-reads
+use Rattle.firmware.proofs.filkotar_gain.Kinds as kinds
 use Rattle.firmware.proofs.filkotar_gain.Reads as reads
 
 point-1 : Point1
@@ -40,9 +44,21 @@ never-rises = point-1 .never-rises
 abbrev Told : ℤ → ℕ → Type 0
 Told v r = reads.Learnt tt (v, tt) r (v, tt)
 
--- it asks for nothing
+-- it takes a signed number of 32 bits, gives an unsigned one of 16, and asks for nothing; nor does `gain`, which gives the same
+takes : kinds.ps ≡ pSNum w32 ∷ []
+takes = refl
+
+gives : kinds.r ≡ rNum w16
+gives = refl
+
 asks-nothing : (v : ℤ) → reads.Asked tt (v, tt)
 asks-nothing v = tt
+
+gain-asks-nothing : (v : ℤ) → gain-reads.Asked tt (v, tt)
+gain-asks-nothing v = tt
+
+gain-told : (v : ℤ) (r : ℕ) → gain-reads.Learnt tt (v, tt) r (v, tt) → Told v r
+gain-told v r t = t
 
 -- "A dip value of 0 or more gets 32,768; a value −n down to −240 gets entry n; anything lower gets 0."
 told-high : (n r : ℕ) → Told (pos n) r → r ≡ 32768
