@@ -3,20 +3,19 @@ use mathlib.Core.Path.{_≡_, refl, sym}
 use Prim.Native.Nat.{ℕ, zero, suc, _≤_, _<_}
 use native.Mathlib.Omega.{arith}
 use lib.IntN.{pos, negℤ}
-use borrow.Author.Tests.{le-leb, lt-leb}
 use Rattle.gain.specs.Gains.{entryOf, gainOf}
 use Rattle.gain.specs.Promises.{Point1}
 use Rattle.gain.proofs.Rule.{largest-of, largest-only, entry-largest, entries-never-rise, entry-is}
-use Rattle.gain.proofs.Cases.{gain-at-most, gain-never-falls}
+use Rattle.gain.proofs.Cases.{with-entry, without-entry, gain-at-most, gain-never-falls}
 use Rattle.gain.proofs.entry.Reads as reads
 
 entries : (n : ℕ) → n ≤ 240 → gainOf (negℤ (pos n)) ≡ entryOf n
 entries zero h = sym (entry-is 0 32768 refl)
-entries (suc k) h = rw (le-leb (suc k) 240 h)
+entries (suc k) h = with-entry k h
 
 low : (n : ℕ) → 240 < n → gainOf (negℤ (pos n)) ≡ 0
 low zero h = absurd (omega arith)
-low (suc k) h = rw (lt-leb (suc k) 240 h)
+low (suc k) h = without-entry k h
 
 -- of the code's own list: `entry`, whose contract is read as it stands in the source, may be asked for each n up to 240, and gives what the definition gives
 entry-asked : (n : ℕ) → n ≤ 240 → reads.Asked tt (n, tt)

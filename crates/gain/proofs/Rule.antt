@@ -1,7 +1,7 @@
 -- The rule of an entry. The product g ^ 80 * 10 ^ n never falls as g or n grows, so where a number fits, every smaller one does, with every smaller n too. Hence
 -- what fits is at most the largest, there is one largest only, and with a larger n it is no larger. Going down from a number above which nothing fits finds it.
 use mathlib.Core.Path.{_≡_, refl}
-use mathlib.Core.Bool.{Bool, true, false, not, _&&_, cond}
+use mathlib.Core.Bool.{Bool, true, false, not, _&&_, cond, and-eq-true-iff}
 use mathlib.Core.Logic.{inl, inr}
 use mathlib.Core.List.{List}
 use Prim.Native.Nat.{ℕ, zero, suc, _+_, _*_, _^_, _≤_, zero-le}
@@ -11,7 +11,7 @@ use lib.Dec.{lit<}
 use lib.ListN.{length, getD}
 use borrow.Author.Tests.{leb-true, le-leb, not-true}
 use Rattle.laws.proofs.Tests.{clash, refuted, lt-or-ge}
-use Rattle.laws.proofs.Tables.{first-holds, second-holds, every, every-entry}
+use Rattle.laws.proofs.Tables.{every, every-entry}
 use Rattle.gain.specs.Gains.{fits, Largest, largestTo, entryOf}
 
 -- where a number fits, every smaller one does, with every smaller n too
@@ -55,9 +55,8 @@ obeys n g = fits n g && not (fits n (suc g))
 
 pub largest-tested : (n g : ℕ) → obeys n g ≡ true → Largest n g
 largest-tested n g e =
-    let a = fits n g in
-    let b = not (fits n (suc g)) in
-    record { this = first-holds a b e; next = not-true (fits n (suc g)) (second-holds a b e) }
+    let both = and-eq-true-iff (fits n g) (not (fits n (suc g))) .0 e in
+    record { this = both .0; next = not-true (fits n (suc g)) (both .1) }
 
 -- the number that passes the test with n is entry n
 pub entry-is : (n g : ℕ) → obeys n g ≡ true → entryOf n ≡ g
