@@ -1,4 +1,5 @@
 pub mod Choice
+pub mod Acceptances
 pub mod Lowest
 pub mod Steps
 pub mod Soundness

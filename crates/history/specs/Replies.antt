@@ -1,7 +1,8 @@
--- Document 01, "Replies in checking order": the number of each reply, what it shows, and which refusal is the first that applies.
+-- Document 01, "Replies in checking order": the number of each reply, what it shows, how many are acceptances, and which refusal is the first that applies.
 use mathlib.Core.Bool.{Bool, cond}
+use mathlib.Core.List.{List, [], _∷_}
 use mathlib.Core.Option.{Option, none, some}
-use Prim.Native.Nat.{ℕ}
+use Prim.Native.Nat.{ℕ, _+_}
 use lib.Dec.{eqb}
 use Rattle.history.specs.declared.Position.{Position}
 use Rattle.history.specs.declared.Minimum.{Minimum}
@@ -49,6 +50,11 @@ abbrev pub told : Reply → Told
 told Reply.Accepted = accepted
 told (Reply.Lowest m) = showing m
 told (Reply.Refused why) = numbered (numberOf why)
+
+-- "commands accepted" (document 01, "Played examples"): how many of those that were told so
+abbrev pub acceptances : List Told → ℕ
+acceptances [] = 0
+acceptances (t ∷ ts) = cond (eqb (t .number) 0) 1 0 + acceptances ts
 
 -- "The highest is 4,294,967,295."
 abbrev pub highest : Position

@@ -1,8 +1,9 @@
 // The words that the engine and its callers share: positions, commands, the session and the replies; and the present position's standing.
 // What they mean is said in specs/, from document 01 alone; nothing here knows how the engine keeps its marks.
 ghost use mathlib.Core.Path.{_≡_};
+ghost use mathlib.Core.List.{[], _∷_};
 ghost use Rattle.history.specs.declared.Command.the-variants.{Close};
-ghost use Rattle.history.specs.Replies.{numberOf, told};
+ghost use Rattle.history.specs.Replies.{numberOf, told, acceptances};
 ghost use Rattle.history.specs.Standings as Standings;
 ghost use Rattle.history.specs.Standings.{transitionOf, eventOf};
 
@@ -115,6 +116,13 @@ pub fn reply_number(reply: Reply) -> u8
         Reply::Lowest(_) => 0,
         Reply::Refused(refusal) => number(refusal),
     }
+}
+
+// How many acceptances a reply is: 1, or 0 of a refusal.
+pub fn acceptances_of(reply: Reply) -> usize
+    ensures { λ r. ⌜ r ≡ acceptances (told reply ∷ []) ⌝ }
+{
+    if reply_number(reply) == 0 { 1 } else { 0 }
 }
 
 fn allowing(after: Standing) -> Transition

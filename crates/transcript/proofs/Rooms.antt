@@ -6,39 +6,19 @@ use Prim.Native.Nat.{ℕ, _+_, _*_, _<_, _≤_}
 use native.Mathlib.Omega.{arith}
 use native.Mathlib.Decide.{ℕ-discrete}
 use lib.ListN.{length, length-append}
-use Rattle.history.specs.declared.Refusal.{Refusal}
-use Rattle.history.specs.declared.Reply.{Reply}
 use Rattle.history.specs.declared.Session.{Session}
 use Rattle.history.specs.declared.Command.{Command}
 use Rattle.history.specs.declared.Command.the-variants.{Value, Mark, Query, Close}
 use Rattle.history.specs.declared.Answer.{Answer}
-use Rattle.history.specs.Replies.{Told, numberOf, told}
+use Rattle.history.specs.Replies.{Told, told}
 use Rattle.reading.specs.Kinds.{bytesOf}
 use Rattle.engine.specs.Contracts.{Does}
 use Rattle.engine.proofs.Settling.{settled-refused, any-acceptance}
-use Rattle.transcript.specs.Writing.{Adds, decimalOf}
-use Rattle.transcript.specs.Lines.{newline, replyText, answerLine}
-use Rattle.transcript.proofs.Decimals.{within}
-
--- no refusal's number has more than two digits
-number-few : (why : Refusal) → numberOf why < 100
-number-few Refusal.AreaTooShort = omega arith
-number-few Refusal.UnknownKind = omega arith
-number-few Refusal.ArgumentCutOff = omega arith
-number-few Refusal.Unopened = omega arith
-number-few Refusal.OtherLength = omega arith
-number-few Refusal.LastPosition = omega arith
-number-few Refusal.NothingToMark = omega arith
-number-few Refusal.AlreadyMarked = omega arith
-number-few Refusal.AlreadyClosed = omega arith
-number-few Refusal.Full = omega arith
-number-few Refusal.NotActive = omega arith
-
--- nor has any reply's
-told-few : (r : Reply) → told r .number < 100
-told-few Reply.Accepted = omega arith
-told-few (Reply.Lowest m) = omega arith
-told-few (Reply.Refused why) = number-few why
+use Rattle.text.specs.Writing.{Adds, decimalOf}
+use Rattle.text.specs.Parts.{newline, replyText}
+use Rattle.text.proofs.Decimals.{within}
+use Rattle.text.proofs.ReplyTexts.{told-few}
+use Rattle.transcript.specs.Lines.{answerLine}
 
 -- a Mark is shown nothing, accepted or refused
 mark-bare : {s : Session} {before after : List ℕ} {r : Answer} → Does s Mark before after r → told (r .reply) .shown ≡ none

@@ -2,18 +2,17 @@
 -- One command more is one call more at the end of the list, and one line. When no further command is read, the engine's list theorem says of the whole list what the bookkeeper tells.
 use mathlib.Core.Path.{_≡_, refl, sym, ap, _∙_}
 use mathlib.Core.List.{List, [], _∷_, _++_, append-assoc, append-nil}
-use mathlib.Core.Option.{Option, none}
-use mathlib.Core.Bool.{Bool, true, false, cond}
+use mathlib.Core.Option.{none}
 use Prim.Native.Nat.{ℕ, zero, suc, _+_, _*_, _-_, _≤_}
 use native.Mathlib.Nat.{add-zero}
 use native.Mathlib.Omega.{arith}
-use lib.Dec.{eqb}
 use lib.ListN.{length, take, drop, length-append, length-drop}
 use lib.Seq.{take-all, drop-drop}
 use Rattle.history.specs.declared.Command.{Command}
 use Rattle.history.specs.declared.Session.{Session}
-use Rattle.history.specs.Replies.{Told}
+use Rattle.history.specs.Replies.{acceptances}
 use Rattle.history.specs.Histories.{model}
+use Rattle.history.proofs.Acceptances.{acceptances-more}
 use Rattle.runs.specs.Runs.{Call}
 use Rattle.runs.specs.Lists.{commandsOf, toldTo, InTurn, lastSession, lastWords}
 use Rattle.runs.proofs.Lists.{in-turn-more, commands-more, told-more, session-more, words-more}
@@ -24,26 +23,13 @@ use Rattle.reading.specs.Outcomes.{Outcome, next, readAs, readingOf}
 use Rattle.reading.proofs.Lengths.{some-byte, next-within}
 use Rattle.engine.specs.Demand.{Answered}
 use Rattle.engine.specs.Contracts.{Does}
+use Rattle.text.specs.Writing.{Adds}
+use Rattle.text.proofs.Texts.{then}
 use Rattle.transcript.specs.declared.Progress.{Progress}
-use Rattle.transcript.specs.Writing.{Adds}
 use Rattle.transcript.specs.Lines.{answerLine}
 use Rattle.transcript.specs.Streams.{Stream, stops, streamFrom, streamOf}
-use Rattle.transcript.specs.Output.{answerLines, stopLines, acceptances}
+use Rattle.transcript.specs.Output.{answerLines, stopLines}
 use Rattle.transcript.specs.Private.{Performs, Follows}
-use Rattle.transcript.proofs.Texts.{then}
-
--- one command is accepted at most once
-pub at-most-one : (t : Told) → acceptances (t ∷ []) ≤ 1
-at-most-one t = go (eqb (t .number) 0)
-  where
-    go : (b : Bool) → cond b 1 0 + 0 ≤ 1
-    go true = omega arith
-    go false = omega arith
-
--- one told more
-acceptances-more : (ts : List Told) (t : Told) → acceptances (ts ++ (t ∷ [])) ≡ acceptances ts + acceptances (t ∷ [])
-acceptances-more [] t = omega arith
-acceptances-more (u ∷ ts) t = omega (arith, acceptances-more ts t)
 
 -- one line more, of the call behind the others
 lines-more : (n : ℕ) (cs : List (Call model)) (c : Call model)

@@ -8,22 +8,22 @@ use lib.ListN.{length, take}
 use Rattle.history.specs.declared.Answer.{Answer}
 use Rattle.history.specs.declared.Command.{Command}
 use Rattle.history.specs.declared.Session.{Session}
-use Rattle.history.specs.Replies.{Told}
+use Rattle.history.specs.Replies.{Told, acceptances}
 use Rattle.history.specs.Histories.{History, Stepped, sessionOf, opening, model}
 use Rattle.history.proofs.Steps.{opening-accepted}
 use Rattle.runs.specs.Runs.{Call, Made, EachCall, AllAgree}
-use Rattle.runs.specs.Lists.{repliesOf, stateOf, commandsOf, toldTo, AllLent, lastSession}
+use Rattle.runs.specs.Lists.{repliesOf, stateOf, commandsOf, toldTo, AllLent}
 use Rattle.runs.proofs.Lists.{each-call, told-all, session-last, in-turn-made}
 use Rattle.engine.specs.Demand.{Answered, OpeningAgrees, Meets}
 use Rattle.engine.specs.Contracts.{Opens, Does}
 use Rattle.engine.proofs.Theorem.{by-contract}
+use Rattle.text.specs.Writing.{Adds}
+use Rattle.text.proofs.Texts.{then}
 use Rattle.transcript.specs.declared.Progress.{Progress}
-use Rattle.transcript.specs.Writing.{Adds}
 use Rattle.transcript.specs.Lines.{tapsLine, endLine}
-use Rattle.transcript.specs.Streams.{Stream, streamOf}
-use Rattle.transcript.specs.Output.{answerLines, stopLines, acceptances, printed}
+use Rattle.transcript.specs.Streams.{streamOf}
+use Rattle.transcript.specs.Output.{answerLines, stopLines, printed}
 use Rattle.transcript.specs.Private.{Follows}
-use Rattle.transcript.proofs.Texts.{then}
 
 -- as many commands as calls
 as-many : (cs : List (Call model)) → length cs ≡ length (commandsOf model cs)

@@ -1,4 +1,3 @@
-pub mod Writing
 pub mod Lines
 pub mod Streams
 pub mod Output

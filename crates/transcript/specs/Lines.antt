@@ -1,12 +1,11 @@
 -- Document 01, "Played examples": each line that the stream program prints.
-use mathlib.Core.List.{List, [], _∷_, _++_}
-use mathlib.Core.Option.{Option, none, some}
+use mathlib.Core.List.{List, _∷_, _++_}
 use Prim.Native.Nat.{ℕ}
 use Rattle.history.specs.declared.Command.{Command}
 use Rattle.history.specs.declared.Command.the-variants.{Value, Mark, Query, Close}
-use Rattle.history.specs.declared.Minimum.{Minimum}
 use Rattle.history.specs.Replies.{Told}
-use Rattle.transcript.specs.Writing.{decimalOf, signedText}
+use Rattle.text.specs.Writing.{decimalOf}
+use Rattle.text.specs.Parts.{spaced, newline, replyText}
 
 -- "its letter V, M, Q or C"
 abbrev pub letterOf : Command → ℕ
@@ -15,28 +14,9 @@ letterOf Mark = 77
 letterOf (Query i) = 81
 letterOf (Close i) = 67
 
--- the parts of a line stand a space apart, and it ends with a line feed
-abbrev pub spaced : List ℕ → List ℕ
-spaced text = 32 ∷ text
-
-abbrev pub newline : List ℕ
-newline = 10 ∷ []
-
 -- "taps 60", of the session's limit
 abbrev pub tapsLine : ℕ → List ℕ
 tapsLine limit = 116 ∷ 97 ∷ 112 ∷ 115 ∷ spaced (decimalOf limit ++ newline)
-
--- "after an accepted Query the value and place"
-abbrev pub minimumText : Minimum → List ℕ
-minimumText m = spaced (signedText (m .value)) ++ spaced (decimalOf (m .place .0))
-
-abbrev pub shownText : Option Minimum → List ℕ
-shownText none = []
-shownText (some m) = minimumText m
-
--- "the reply", and what it shows
-abbrev pub replyText : Told → List ℕ
-replyText t = decimalOf (t .number) ++ shownText (t .shown)
 
 -- "per command its running number from 1, its letter .., the reply, and after an accepted Query the value and place"
 abbrev pub answerLine : ℕ → Command → Told → List ℕ

@@ -1,13 +1,11 @@
 -- Document 01, "Played examples": the whole output of the stream program, as a function of its bytes. `transcript::write` leaves it in an array; the program's `main` reads the bytes before
 -- and writes the array after.
-use mathlib.Core.Bool.{cond}
 use mathlib.Core.List.{List, [], _∷_, _++_}
 use mathlib.Core.Option.{Option, none, some}
 use Prim.Native.Nat.{ℕ, _+_}
-use lib.Dec.{eqb}
 use lib.ListN.{length, take}
 use Rattle.history.specs.declared.Command.{Command}
-use Rattle.history.specs.Replies.{Told}
+use Rattle.history.specs.Replies.{Told, acceptances}
 use Rattle.history.specs.Histories.{History, opening, model}
 use Rattle.runs.specs.Lists.{repliesOf, stateOf}
 use Rattle.transcript.specs.Lines.{tapsLine, answerLine, stopLine, endLine}
@@ -23,11 +21,6 @@ answerLines n (c ∷ cs) (t ∷ ts) = answerLine n c t ++ answerLines (n + 1) cs
 abbrev pub stopLines : ℕ → Option ℕ → List ℕ
 stopLines at none = []
 stopLines at (some number) = stopLine at number
-
--- "commands accepted": how many of those that were told so
-abbrev pub acceptances : List Told → ℕ
-acceptances [] = 0
-acceptances (t ∷ ts) = cond (eqb (t .number) 0) 1 0 + acceptances ts
 
 -- what is printed of a stream whose commands go to the bookkeeper of an opening of n words, each lent as many: "It prints `taps 60`; per command ..; upon a reading refusal `stop` ..;
 -- finally `end` with commands read, commands accepted and active taps"

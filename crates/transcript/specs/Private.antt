@@ -7,18 +7,18 @@ use Prim.Native.Nat.{ℕ, _+_, _*_, _≤_}
 use lib.ListN.{length}
 use Rattle.history.specs.declared.Command.{Command}
 use Rattle.history.specs.declared.Session.{Session}
-use Rattle.history.specs.Replies.{Told}
+use Rattle.history.specs.Replies.{Told, acceptances}
 use Rattle.history.specs.Histories.{model}
 use Rattle.runs.specs.Runs.{Call}
 use Rattle.runs.specs.Lists.{commandsOf, toldTo, InTurn, lastSession}
 use Rattle.reading.specs.Kinds.{bytesOf}
 use Rattle.engine.specs.Demand.{Answered}
 use Rattle.engine.specs.Contracts.{Does}
+use Rattle.text.specs.Writing.{Adds}
 use Rattle.transcript.specs.declared.Progress.{Progress}
-use Rattle.transcript.specs.Writing.{Adds}
 use Rattle.transcript.specs.Lines.{answerLine}
 use Rattle.transcript.specs.Streams.{streamOf}
-use Rattle.transcript.specs.Output.{answerLines, stopLines, acceptances}
+use Rattle.transcript.specs.Output.{answerLines, stopLines}
 
 -- `perform`: one call of the engine for a command, lent the words `before` and leaving them as `after`, with its line; it is counted as read, and as
 -- accepted where it was

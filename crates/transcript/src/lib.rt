@@ -1,18 +1,14 @@
 // The stream program of document 01, but for its input and output: commands as bytes go through the engine, and all that is printed of them is written into an array.
 mod lines;
-mod text;
 
 ghost use mathlib.Core.Path.{_≡_};
-ghost use mathlib.Core.List.{[], _∷_};
 ghost use Prim.Native.Nat.{_+_, _<_, _≤_};
 ghost use lib.ListN.{length, take};
-ghost use Rattle.history.specs.Replies.{told};
 ghost use Rattle.io.specs.Counts.{Counts};
 ghost use Rattle.transcript.specs.Streams.{streamOf};
-ghost use Rattle.transcript.specs.Output.{acceptances, printed, outputOf};
+ghost use Rattle.transcript.specs.Output.{printed, outputOf};
 ghost use Rattle.transcript.specs.Private.{Performs, Follows};
 use history::Command;
-use history::Reply;
 use history::Session;
 use reading::Reading;
 
@@ -22,16 +18,6 @@ struct Progress {
     read: usize,
     accepted: usize,
     used: usize,
-}
-
-fn acceptances_of(reply: Reply) -> usize
-    ensures { λ r. ⌜ r ≡ acceptances (told reply ∷ []) ⌝ }
-{
-    if history::reply_number(reply) == 0 {
-        1
-    } else {
-        0
-    }
 }
 
 // The next command, with its line, for which there is room. Its running number has no more than five digits.
@@ -47,7 +33,7 @@ fn perform(progress: Progress, area: &mut [u64], command: Command, out: &mut [u8
     Progress {
         session,
         read,
-        accepted: progress.accepted + acceptances_of(reply),
+        accepted: progress.accepted + history::acceptances_of(reply),
         used,
     }
 }

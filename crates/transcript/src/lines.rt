@@ -3,16 +3,15 @@ ghost use mathlib.Core.Path.{_≡_};
 ghost use Prim.Native.Nat.{_+_, _<_, _≤_};
 ghost use lib.ListN.{length};
 ghost use Rattle.history.specs.Replies.{numberOf, told};
-ghost use Rattle.transcript.specs.Writing.{Adds};
-ghost use Rattle.transcript.specs.Lines.{letterOf, tapsLine, minimumText, replyText, answerLine, stopLine, endLine};
-use crate::text::put;
-use crate::text::put_number;
-use crate::text::put_numbered;
-use crate::text::put_signed;
+ghost use Rattle.text.specs.Writing.{Adds};
+ghost use Rattle.transcript.specs.Lines.{letterOf, tapsLine, answerLine, stopLine, endLine};
 use history::Command;
-use history::Minimum;
 use history::Refusal;
 use history::Reply;
+use text::put;
+use text::put_number;
+use text::put_numbered;
+use text::put_reply;
 
 pub fn taps(out: &mut [u8], used: usize, limit: usize) -> usize
     requires { ⌜ used + 26 ≤ length (now out) ⌝ }
@@ -30,28 +29,6 @@ fn letter(command: Command) -> u8
         Command::Mark => b'M',
         Command::Query(_) => b'Q',
         Command::Close(_) => b'C',
-    }
-}
-
-fn put_minimum(out: &mut [u8], used: usize, minimum: Minimum) -> usize
-    requires { ⌜ used + 23 ≤ length (now out) ⌝ }
-    ensures { λ r. ⌜ Adds (now (out .entry)) used (minimumText minimum) (now (out .exit)) r × (r ≤ used + 23) ⌝ }
-{
-    let space = put(out, used, b" ");
-    let value = put_signed(out, space, minimum.value);
-    let place = minimum.place;
-    put_numbered(out, value, b" ", place.0 as u64)
-}
-
-fn put_reply(out: &mut [u8], used: usize, reply: Reply) -> usize
-    requires { ⌜ used + 26 ≤ length (now out) ⌝ }
-    ensures { λ r. ⌜ Adds (now (out .entry)) used (replyText (told reply)) (now (out .exit)) r × (r ≤ used + 26) ⌝ }
-{
-    let number = put_number(out, used, history::reply_number(reply) as u64);
-    match reply {
-        Reply::Lowest(minimum) => put_minimum(out, number, minimum),
-        Reply::Accepted => number,
-        Reply::Refused(_) => number,
     }
 }
 

@@ -4,8 +4,8 @@ use mathlib.Core.Path.{refl, ap}
 use Prim.Native.Nat.{ℕ, _+_, _≤_}
 use native.Mathlib.Omega.{arith}
 use Rattle.history.specs.Replies.{told}
+use Rattle.history.proofs.Acceptances.{at-most-one}
 use Rattle.transcript.proofs.Rooms.{takes}
-use Rattle.transcript.proofs.Streams.{at-most-one}
 use Rattle.transcript.proofs.perform.Statement.{statement}
 use Rattle.transcript.proofs.perform.Tie as tie
 

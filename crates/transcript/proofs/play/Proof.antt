@@ -1,10 +1,10 @@
 -- `transcript::play` meets its contract: the lines of an opening of 4,352 words, of the calls that follow and of their end are a whole run's, and the room is enough for each.
 use borrow.Author.Needs.{needs}
-use mathlib.Core.Path.{_≡_, _∙_}
+use mathlib.Core.Path.{_∙_}
 use Prim.Native.Nat.{ℕ}
 use native.Mathlib.Omega.{arith}
 use lib.ListN.{length-replicate}
-use Rattle.transcript.proofs.Texts.{counted}
+use Rattle.text.proofs.Texts.{counted}
 use Rattle.transcript.proofs.Whole.{whole-run}
 use Rattle.transcript.proofs.play.Statement.{statement}
 use Rattle.transcript.proofs.play.Tie as tie

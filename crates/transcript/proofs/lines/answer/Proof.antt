@@ -3,9 +3,9 @@ use borrow.Author.Needs.{needs}
 use Prim.Native.Nat.{_≤_}
 use native.Mathlib.Omega.{arith}
 use lib.ListN.{length}
-use Rattle.transcript.specs.Writing.{decimalOf}
-use Rattle.transcript.proofs.Decimals.{within}
-use Rattle.transcript.proofs.Texts.{then}
+use Rattle.text.specs.Writing.{decimalOf}
+use Rattle.text.proofs.Decimals.{within}
+use Rattle.text.proofs.Texts.{then}
 use Rattle.transcript.proofs.lines.answer.Statement.{statement}
 use Rattle.transcript.proofs.lines.answer.Tie as tie
 

@@ -1,8 +1,8 @@
 -- `transcript::lines::end` meets its contract: the texts that are put one after the other are those of the line, and a number has no more than twenty digits.
 use borrow.Author.Needs.{needs}
 use native.Mathlib.Omega.{arith}
-use Rattle.transcript.proofs.Decimals.{capped}
-use Rattle.transcript.proofs.Texts.{then}
+use Rattle.text.proofs.Decimals.{capped}
+use Rattle.text.proofs.Texts.{then}
 use Rattle.transcript.proofs.lines.end.Statement.{statement}
 use Rattle.transcript.proofs.lines.end.Tie as tie
 

@@ -1,8 +1,12 @@
-// Text, written from left to right into bytes that are lent. Nothing here knows what the text says.
+// Text, written from left to right into bytes that are lent: bytes, numbers, signed values and replies. Nothing here knows what line they stand in.
 ghost use mathlib.Core.List.{_++_};
 ghost use Prim.Native.Nat.{_+_, _≤_};
 ghost use lib.ListN.{length};
-ghost use Rattle.transcript.specs.Writing.{Adds, decimalOf, signedText};
+ghost use Rattle.history.specs.Replies.{told};
+ghost use Rattle.text.specs.Writing.{Adds, decimalOf, signedText};
+ghost use Rattle.text.specs.Parts.{minimumText, replyText};
+use history::Minimum;
+use history::Reply;
 
 // Writes a text behind the first `used` bytes, and returns how many are then written.
 pub fn put(out: &mut [u8], used: usize, text: &[u8]) -> usize
@@ -44,4 +48,28 @@ pub fn put_signed(out: &mut [u8], used: usize, v: i32) -> usize
         return put_numbered(out, used, b"-", signed::magnitude(v));
     }
     put_number(out, used, signed::magnitude(v))
+}
+
+// A minimum: its value and its place, each behind a space.
+pub fn put_minimum(out: &mut [u8], used: usize, minimum: Minimum) -> usize
+    requires { ⌜ used + 23 ≤ length (now out) ⌝ }
+    ensures { λ r. ⌜ Adds (now (out .entry)) used (minimumText minimum) (now (out .exit)) r × (r ≤ used + 23) ⌝ }
+{
+    let space = put(out, used, b" ");
+    let value = put_signed(out, space, minimum.value);
+    let place = minimum.place;
+    put_numbered(out, value, b" ", place.0 as u64)
+}
+
+// A reply: its number, and the minimum that it shows, if any.
+pub fn put_reply(out: &mut [u8], used: usize, reply: Reply) -> usize
+    requires { ⌜ used + 26 ≤ length (now out) ⌝ }
+    ensures { λ r. ⌜ Adds (now (out .entry)) used (replyText (told reply)) (now (out .exit)) r × (r ≤ used + 26) ⌝ }
+{
+    let number = put_number(out, used, history::reply_number(reply) as u64);
+    match reply {
+        Reply::Lowest(minimum) => put_minimum(out, number, minimum),
+        Reply::Accepted => number,
+        Reply::Refused(_) => number,
+    }
 }

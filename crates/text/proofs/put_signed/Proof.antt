@@ -1,16 +1,15 @@
--- `transcript::text::put_signed` meets its contract: below zero the text is a minus sign and the size, and else the size alone; a size has no more than ten digits.
+-- `text::put_signed` meets its contract: below zero the text is a minus sign and the size, and else the size alone; a size has no more than ten digits.
 use borrow.Author.Needs.{needs}
-use mathlib.Core.Path.{_≡_}
 use Prim.Native.Nat.{_≤_}
 use native.Mathlib.Omega.{arith}
 use lib.ListN.{length}
 use mir.Facts.{toZ-ofZ}
 use Rattle.signed.proofs.Size.{size-small}
-use Rattle.transcript.specs.Writing.{decimalOf}
-use Rattle.transcript.proofs.Decimals.{within}
-use Rattle.transcript.proofs.SignedTexts.{minus-text, plain-text}
-use Rattle.transcript.proofs.text.put_signed.Statement.{statement}
-use Rattle.transcript.proofs.text.put_signed.Tie as tie
+use Rattle.text.specs.Writing.{decimalOf}
+use Rattle.text.proofs.Decimals.{within}
+use Rattle.text.proofs.SignedTexts.{minus-text, plain-text}
+use Rattle.text.proofs.put_signed.Statement.{statement}
+use Rattle.text.proofs.put_signed.Tie as tie
 
 -- a size has no more than ten digits
 few : (c : tie.After-magnitude) → length (decimalOf (c .magnitude .result)) ≤ 10

@@ -1,6 +1,6 @@
 -- The fewest digits that hold a number are its decimal digits, and how many there are at most.
 use mathlib.Core.Path.{_≡_}
-use mathlib.Core.List.{[], _∷_, _++_}
+use mathlib.Core.List.{[], _∷_}
 use Prim.Native.Nat.{ℕ, zero, suc, _*_, _-_, _/_, _%_, _<_, _≤_, _^_}
 use native.Mathlib.Nat.{pow-succ', one-le-pow, pow-le-pow-right, mod-eq-of-lt, le-div-iff-mul-le, div-lt-iff-lt-mul}
 use native.Mathlib.Numerals.{sub-one}
@@ -9,7 +9,7 @@ use native.Mathlib.Omega.{arith}
 use lib.ListN.{length, length-append}
 use borrow.Author.Tests.{lt-ltb, le-ltb}
 use Rattle.io.specs.Digits.{glyph, digits, Fewest}
-use Rattle.transcript.specs.Writing.{digitsWithin}
+use Rattle.text.specs.Writing.{digitsWithin}
 
 -- a number of two digits or more is no less than the least of that many
 least : (k n : ℕ) → Fewest 10 1 n (suc (suc k)) → 10 * 10 ^ k ≤ n

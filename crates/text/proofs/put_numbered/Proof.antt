@@ -1,11 +1,11 @@
--- `transcript::text::put_numbered` meets its contract: the room for both is room for the text, and then for the number.
+-- `text::put_numbered` meets its contract: the room for both is room for the text, and then for the number.
 use borrow.Author.Needs.{needs}
 use native.Mathlib.Omega.{arith}
 use lib.ListN.{length-append}
-use Rattle.transcript.specs.Writing.{decimalOf}
-use Rattle.transcript.proofs.Texts.{then}
-use Rattle.transcript.proofs.text.put_numbered.Statement.{statement}
-use Rattle.transcript.proofs.text.put_numbered.Tie as tie
+use Rattle.text.specs.Writing.{decimalOf}
+use Rattle.text.proofs.Texts.{then}
+use Rattle.text.proofs.put_numbered.Statement.{statement}
+use Rattle.text.proofs.put_numbered.Tie as tie
 
 put-requires : tie.Need-put-requires
 put-requires c κs =

@@ -1,13 +1,10 @@
--- `transcript::text::put_number` meets its contract: the fewest digits that hold a number of 64 bits are its decimal digits, at most 20.
+-- `text::put_number` meets its contract: the fewest digits that hold a number of 64 bits are its decimal digits, at most 20.
 use borrow.Author.Needs.{needs}
-use mathlib.Core.Path.{_≡_, _∙_}
+use mathlib.Core.Path.{_∙_}
 use Prim.Native.Nat.{_≤_}
-use native.Mathlib.Omega.{arith}
-use lib.ListN.{take}
-use Rattle.transcript.specs.Writing.{decimalOf}
-use Rattle.transcript.proofs.Decimals.{spelled, few}
-use Rattle.transcript.proofs.text.put_number.Statement.{statement}
-use Rattle.transcript.proofs.text.put_number.Tie as tie
+use Rattle.text.proofs.Decimals.{spelled, few}
+use Rattle.text.proofs.put_number.Statement.{statement}
+use Rattle.text.proofs.put_number.Tie as tie
 
 -- there are no more digits than the array holds
 fewer : (c : tie.After-decimal) → c .decimal .result ≤ 20

@@ -1,14 +1,13 @@
--- `transcript::text::put` meets its contract. The loop's invariant: the bytes are those that were lent, with the text's first i copied behind what was written. The measure is
+-- `text::put` meets its contract. The loop's invariant: the bytes are those that were lent, with the text's first i copied behind what was written. The measure is
 -- what is left of the text.
 use borrow.Author.Needs.{needs}
 use Prim.Native.Nat.{_-_, _≤_}
 use mathlib.Core.Path.{_≡_}
-use native.Mathlib.Omega.{arith}
 use lib.ListN.{length}
 use lib.Seq.{paste, paste-zero}
-use Rattle.transcript.proofs.Copies.{copied-more, copied-all}
-use Rattle.transcript.proofs.text.put.Statement.{statement}
-use Rattle.transcript.proofs.text.put.Tie as tie
+use Rattle.text.proofs.Copies.{copied-more, copied-all}
+use Rattle.text.proofs.put.Statement.{statement}
+use Rattle.text.proofs.put.Tie as tie
 
 abbrev Inv-loop : tie.InvT-loop
 Inv-loop out₀ used text i₀ out i = (i ≤ length text) × (length out ≡ length out₀) × (out ≡ paste out₀ used text i)

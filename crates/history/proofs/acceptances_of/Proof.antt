@@ -1,8 +1,8 @@
--- `transcript::acceptances_of` meets its contract: the test is on the number that the reply is told by.
+-- `history::acceptances_of` meets its contract: the test is on the number that the reply is told by.
 use borrow.Author.Needs.{needs}
 use borrow.Author.Tests.{eq-eqb, ne-eqb}
-use Rattle.transcript.proofs.acceptances_of.Statement.{statement}
-use Rattle.transcript.proofs.acceptances_of.Tie as tie
+use Rattle.history.proofs.acceptances_of.Statement.{statement}
+use Rattle.history.proofs.acceptances_of.Tie as tie
 
 reply-number-requires : tie.Need-reply-number-requires
 reply-number-requires c κs = search needs

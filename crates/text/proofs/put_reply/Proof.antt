@@ -1,4 +1,4 @@
--- `transcript::lines::put_reply` meets its contract: the number, which has no more than three digits, is followed by a minimum in the one case that shows one.
+-- `text::put_reply` meets its contract: the number, which has no more than three digits, is followed by a minimum in the one case that shows one.
 use borrow.Author.Needs.{needs}
 use mathlib.Core.Path.{ap}
 use Prim.Native.Nat.{_≤_}
@@ -6,11 +6,11 @@ use native.Mathlib.Omega.{arith}
 use lib.ListN.{length}
 use Rattle.history.specs.declared.Reply.{Reply}
 use Rattle.history.specs.Replies.{told}
-use Rattle.transcript.specs.Writing.{decimalOf}
-use Rattle.transcript.proofs.Decimals.{within}
-use Rattle.transcript.proofs.Texts.{bare, shows}
-use Rattle.transcript.proofs.lines.put_reply.Statement.{statement}
-use Rattle.transcript.proofs.lines.put_reply.Tie as tie
+use Rattle.text.specs.Writing.{decimalOf}
+use Rattle.text.proofs.Decimals.{within}
+use Rattle.text.proofs.ReplyTexts.{bare, shows}
+use Rattle.text.proofs.put_reply.Statement.{statement}
+use Rattle.text.proofs.put_reply.Tie as tie
 
 -- a number of eight bits has no more than three digits
 few : (c : tie.After-reply-number) → length (decimalOf (c .reply-number .result)) ≤ 3

@@ -1,4 +1,4 @@
--- `transcript::lines::put_minimum` meets its contract: the texts that are put one after the other are those of the value and the place. A place has no more than ten digits.
+-- `text::put_minimum` meets its contract: the texts that are put one after the other are those of the value and the place. A place has no more than ten digits.
 use borrow.Author.Needs.{needs}
 use Prim.Native.Nat.{_≤_}
 use native.Mathlib.Omega.{arith}
@@ -6,11 +6,11 @@ use lib.ListN.{length}
 use mir.Syntax.{w32}
 use mir.Val.{SFits}
 use mir.Facts.{toZ-ofZ}
-use Rattle.transcript.specs.Writing.{decimalOf}
-use Rattle.transcript.proofs.Decimals.{within}
-use Rattle.transcript.proofs.Texts.{then}
-use Rattle.transcript.proofs.lines.put_minimum.Statement.{statement}
-use Rattle.transcript.proofs.lines.put_minimum.Tie as tie
+use Rattle.text.specs.Writing.{decimalOf}
+use Rattle.text.proofs.Decimals.{within}
+use Rattle.text.proofs.Texts.{then}
+use Rattle.text.proofs.put_minimum.Statement.{statement}
+use Rattle.text.proofs.put_minimum.Tie as tie
 
 -- the value is one of 32 bits
 fits : (c : tie.Start) → SFits w32 (c .args .minimum .value)

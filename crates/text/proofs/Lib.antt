@@ -1,0 +1,5 @@
+pub mod Copies
+pub mod Decimals
+pub mod SignedTexts
+pub mod Texts
+pub mod ReplyTexts

@@ -1,0 +1,26 @@
+-- Document 01, "Played examples": what lines are made of besides numbers: the space between two parts, the line's end, and a reply with what it shows.
+use mathlib.Core.List.{List, [], _∷_, _++_}
+use mathlib.Core.Option.{Option, none, some}
+use Prim.Native.Nat.{ℕ}
+use Rattle.history.specs.declared.Minimum.{Minimum}
+use Rattle.history.specs.Replies.{Told}
+use Rattle.text.specs.Writing.{decimalOf, signedText}
+
+-- the parts of a line stand a space apart, and it ends with a line feed
+abbrev pub spaced : List ℕ → List ℕ
+spaced text = 32 ∷ text
+
+abbrev pub newline : List ℕ
+newline = 10 ∷ []
+
+-- "after an accepted Query the value and place"
+abbrev pub minimumText : Minimum → List ℕ
+minimumText m = spaced (signedText (m .value)) ++ spaced (decimalOf (m .place .0))
+
+abbrev pub shownText : Option Minimum → List ℕ
+shownText none = []
+shownText (some m) = minimumText m
+
+-- "the reply", and what it shows
+abbrev pub replyText : Told → List ℕ
+replyText t = decimalOf (t .number) ++ shownText (t .shown)
