@@ -22,7 +22,7 @@ use Rattle.history.specs.declared.Answer.{Answer}
 use Rattle.history.specs.Replies.{Told, told, markRefusal, ownRefusal, refusal}
 use Rattle.history.specs.Standings.{transitionOf}
 use Rattle.history.specs.Histories.{Stepped, sessionOf}
-use Rattle.history.proofs.Steps.{refusal-unopened, refusal-other, refusal-own, refusal-none, mark-free, marked-after, opening-refused, opening-accepted}
+use Rattle.history.proofs.Steps.{refusal-unopened, refusal-other, refusal-own, refusal-none, last-due, earlier-free, mark-free, marked-after, opening-refused, opening-accepted}
 use Rattle.engine.specs.Promises.{AfterRefusal, shows, AfterAcceptance, Settled, AnyOpening, MarkNumber, PositionNumber, OwnNumber, AnyNumber, AnyAcceptance}
 use Rattle.engine.specs.Contracts.{Opens}
 
@@ -119,9 +119,9 @@ module _ {c : Command} {s : Session} {before after : List ℕ} {t : Session} {a 
 own-number : (c : Command) (s : Session) (before after : List ℕ) (t : Session) (a : Told) (q : Settled c s before after t a)
     → refusal s (length before) (q .taken) c ≡ ownRefusal s (q .taken) c → OwnNumber s c (a .number)
 own-number (Value v) s before after t a q f = (
-  (λ e. told-due q 6 (f ∙ ap (λ (b : Bool). cond b 6 0) (eq-eqb (s .present .0) 4294967295 e)) (λ x. omega arith)),
+  (λ e. told-due q 6 (f ∙ last-due (s .present) e) (λ x. omega arith)),
   (λ e. ⊎-elim (λ (x : a .number ≡ 0). x) (λ (x : (Value v ≡ Mark) × (4096 ≤ s .active) × (a .number ≡ 10)). absurd (let m = x .0 in let z : _≡_ {A = ℕ} 0 1 = cc in omega arith))
-      (told-none q (f ∙ ap (λ (b : Bool). cond b 6 0) (ne-eqb (s .present .0) 4294967295 e)))),
+      (told-none q (f ∙ earlier-free (s .present) e))),
 )
 own-number Mark s before after t a q f = mark-number q (s .standing) f
 own-number (Query i) s before after t a q f = position-number q i (λ m. let z : _≡_ {A = ℕ} 0 1 = cc in omega arith) f (q .possible)

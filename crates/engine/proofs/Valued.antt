@@ -7,7 +7,6 @@ use Prim.Native.Nat.{ℕ, _+_, _*_, _<_}
 use native.Mathlib.Omega.{arith}
 use lib.IntN.{ℤ}
 use lib.ListN.{length, getD, length-append}
-use borrow.Author.Tests.{eq-eqb, ne-eqb}
 use Rattle.history.specs.declared.Session.{Session}
 use Rattle.history.specs.declared.Command.the-variants.{Value}
 use Rattle.history.specs.declared.Event.{Event}
@@ -16,7 +15,7 @@ use Rattle.history.specs.Minima.{standsAt, next}
 use Rattle.history.specs.Standings.{transitionOf}
 use Rattle.history.specs.Replies.{refusal}
 use Rattle.history.specs.Histories.{History, sessionOf, isActive, accept}
-use Rattle.history.proofs.Steps.{refusal-own}
+use Rattle.history.proofs.Steps.{refusal-own, last-due, earlier-free}
 use Rattle.layout.specs.Layout.{capacity}
 use Rattle.stack.specs.Calls.{Lowered}
 use Rattle.ranges.proofs.Upkeep.{lowered-rows, lowered-position, lowered-holds}
@@ -28,12 +27,12 @@ use Rattle.engine.proofs.Doing.{does-due, does-accepted, own-of}
 module _ (s : Session) (w : List ℕ) (v : ℤ) (z : s .words ≡ 0 → ⊥) (o : length w ≡ s .words) where
   -- no position is left
   pub value-last : s .present .0 ≡ 4294967295 → Does s (Value v) w w (refusedWith s LastPosition)
-  value-last e = does-due (Value v) s w LastPosition (λ b. rw (refusal-own s (length w) b (Value v) z o, eq-eqb (s .present .0) 4294967295 e))
+  value-last e = does-due (Value v) s w LastPosition (λ b. refusal-own s (length w) b (Value v) z o ∙ last-due (s .present) e)
 
   -- the value is the next position's, and each mark's minimum is lowered by it
   module _ (after : List ℕ) (n : s .present .0 ≡ 4294967295 → ⊥) (q : Lowered w after (standsAt v (next (s .present)))) where
     none-due : (b : Bool) → refusal s (length w) b (Value v) ≡ 0
-    none-due b = rw (refusal-own s (length w) b (Value v) z o, ne-eqb (s .present .0) 4294967295 n)
+    none-due b = refusal-own s (length w) b (Value v) z o ∙ earlier-free (s .present) n
 
     beside : (i : ℕ) → (i ≡ 2 → ⊥) → ((t : ℕ) → t < capacity w → (i ≡ 16 + 8 * t + 3 → ⊥) × (i ≡ 16 + 8 * t + 4 → ⊥) × (i ≡ 16 + 8 * t + 5 → ⊥))
         → getD after i 0 ≡ getD w i 0

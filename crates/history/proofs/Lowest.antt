@@ -155,3 +155,17 @@ minimum-rises vs i j z o h =
 pub minimum-shared : (vs : List ℤ) (i j : Position) → 0 < i .0 → i .0 ≤ length vs → 0 < j .0 → j .0 ≤ length vs
     → minimum vs i .place .0 ≡ minimum vs j .place .0 → minimum vs i ≡ minimum vs j
 minimum-shared vs i j z h y g = same-place vs (minimum-least vs i z h) (minimum-least vs j y g)
+
+-- where the minimum does not stand at its first position, it is the next one's too
+pub minimum-later : (vs : List ℤ) (i : Position) → 0 < i .0 → i .0 ≤ length vs → i .0 < minimum vs i .place .0 → minimum vs (next i) ≡ minimum vs i
+minimum-later vs i z h l =
+    let m = minimum-least vs i z h in
+    let later : Least vs (next i) (minimum vs i) = record {
+      some = omega arith;
+      from = omega arith;
+      to = m .to;
+      stands = m .stands;
+      least = λ k f t. m .least k (omega arith) t;
+      latest = m .latest;
+    } in
+    least-only vs (next i) (minimum vs (next i)) (minimum vs i) (minimum-least vs (next i) (omega arith) (omega (arith, m .to))) later

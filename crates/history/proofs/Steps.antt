@@ -6,6 +6,7 @@ use native.Mathlib.Decide.{decLt, ℕ-discrete}
 use native.Mathlib.Omega.{arith}
 use lib.Dec.{eqb}
 use borrow.Author.Tests.{eq-eqb, ne-eqb, eqb-false, lt-ltb, le-ltb}
+use Rattle.history.specs.declared.Position.{Position}
 use Rattle.history.specs.declared.Standing.{Standing}
 use Rattle.history.specs.declared.Standing.the-variants.{None, Unmarked, Marked, Closed}
 use Rattle.history.specs.declared.Session.{Session}
@@ -15,8 +16,8 @@ use Rattle.history.specs.declared.Event.{Event}
 use Rattle.history.specs.declared.Due.{Due}
 use Rattle.history.specs.declared.Due.the-variants.{Nothing, Refused}
 use Rattle.history.specs.declared.Refusal.{Refusal}
-use Rattle.history.specs.declared.Refusal.the-variants.{AreaTooShort, UnknownKind, ArgumentCutOff, Unopened, OtherLength, LastPosition, NothingToMark, AlreadyMarked, AlreadyClosed, Full, NotActive}
-use Rattle.history.specs.Replies.{numbered, accepted, numberOf, markRefusal, ownRefusal, refusal}
+use Rattle.history.specs.declared.Refusal.the-variants.{AreaTooShort, UnknownKind, ArgumentCutOff, Unopened, OtherLength, LastPosition, NothingToMark, AlreadyMarked, AlreadyClosed, Full, NotActive, WidthOutOfRange, TooFewWords}
+use Rattle.history.specs.Replies.{numbered, accepted, numberOf, valueRefusal, markRefusal, ownRefusal, lentRefusal, refusal}
 use Rattle.history.specs.Standings.{transitionOf}
 use Rattle.history.specs.Histories.{History, Stepped, limitOf, blank, opening, accept, refusalOf, step}
 
@@ -33,26 +34,53 @@ some-number AlreadyMarked e = omega arith
 some-number AlreadyClosed e = omega arith
 some-number Full e = omega arith
 some-number NotActive e = omega arith
+some-number WidthOutOfRange e = omega arith
+some-number TooFewWords e = omega arith
 
-module _ (s : Session) (n : ℕ) (b : Bool) (c : Command) where
-  pub refusal-unopened : s .words ≡ 0 → refusal s n b c ≡ 4
-  refusal-unopened z = rw (eq-eqb (s .words) 0 z)
+-- where so many words were opened and n are lent, and `own` is due to a command beside that
+module _ (opened n own : ℕ) where
+  pub lent-unopened : opened ≡ 0 → lentRefusal opened n own ≡ 4
+  lent-unopened z = rw (eq-eqb opened 0 z)
 
-  pub refusal-other : (s .words ≡ 0 → ⊥) → (n ≡ s .words → ⊥) → refusal s n b c ≡ 5
-  refusal-other z o = rw (ne-eqb (s .words) 0 z, ne-eqb n (s .words) o)
+  pub lent-other : (opened ≡ 0 → ⊥) → (n ≡ opened → ⊥) → lentRefusal opened n own ≡ 5
+  lent-other z o = rw (ne-eqb opened 0 z, ne-eqb n opened o)
 
-  pub refusal-own : (s .words ≡ 0 → ⊥) → n ≡ s .words → refusal s n b c ≡ ownRefusal s b c
-  refusal-own z o = rw (ne-eqb (s .words) 0 z, eq-eqb n (s .words) o)
+  pub lent-own : (opened ≡ 0 → ⊥) → n ≡ opened → lentRefusal opened n own ≡ own
+  lent-own z o = rw (ne-eqb opened 0 z, eq-eqb n opened o)
 
   -- where none applies the session is opened, and the words are as many
-  pub refusal-none : refusal s n b c ≡ 0 → (s .words ≡ 0 → ⊥) × (n ≡ s .words) × (ownRefusal s b c ≡ 0)
-  refusal-none e =
-      let z : s .words ≡ 0 → ⊥ = λ z. omega (arith, refusal-unopened z) in
-      let o : n ≡ s .words = elim (ℕ-discrete n (s .words)) [
+  pub lent-none : lentRefusal opened n own ≡ 0 → (opened ≡ 0 → ⊥) × (n ≡ opened) × (own ≡ 0)
+  lent-none e =
+      let z : opened ≡ 0 → ⊥ = λ z. omega (arith, lent-unopened z) in
+      let o : n ≡ opened = elim (ℕ-discrete n opened) [
         | yes o ↦ o
-        | no o ↦ absurd (omega (arith, refusal-other z o))
+        | no o ↦ absurd (omega (arith, lent-other z o))
       ] in
-      (z, o, sym (refusal-own z o) ∙ e)
+      (z, o, sym (lent-own z o) ∙ e)
+
+-- 6, of a value, and none
+pub last-due : (present : Position) → present .0 ≡ 4294967295 → valueRefusal present ≡ 6
+last-due present e = rw (eq-eqb (present .0) 4294967295 e)
+
+pub earlier-free : (present : Position) → (present .0 ≡ 4294967295 → ⊥) → valueRefusal present ≡ 0
+earlier-free present n = rw (ne-eqb (present .0) 4294967295 n)
+
+pub free-earlier : (present : Position) → valueRefusal present ≡ 0 → present .0 ≡ 4294967295 → ⊥
+free-earlier present e l = omega (arith, last-due present l)
+
+-- of the engine's commands
+module _ (s : Session) (n : ℕ) (b : Bool) (c : Command) where
+  pub refusal-unopened : s .words ≡ 0 → refusal s n b c ≡ 4
+  refusal-unopened = lent-unopened (s .words) n (ownRefusal s b c)
+
+  pub refusal-other : (s .words ≡ 0 → ⊥) → (n ≡ s .words → ⊥) → refusal s n b c ≡ 5
+  refusal-other = lent-other (s .words) n (ownRefusal s b c)
+
+  pub refusal-own : (s .words ≡ 0 → ⊥) → n ≡ s .words → refusal s n b c ≡ ownRefusal s b c
+  refusal-own = lent-own (s .words) n (ownRefusal s b c)
+
+  pub refusal-none : refusal s n b c ≡ 0 → (s .words ≡ 0 → ⊥) × (n ≡ s .words) × (ownRefusal s b c ≡ 0)
+  refusal-none = lent-none (s .words) n (ownRefusal s b c)
 
 -- a Mark to which none applies: the standing has nothing against it, and another number than K is active
 pub mark-free : (s : Session) (d : Due) → markRefusal s d ≡ 0 → (d ≡ Nothing) × (s .active ≡ s .limit → ⊥)

@@ -5,19 +5,17 @@ use mathlib.Core.Option.{none, some}
 use Prim.Native.Nat.{ℕ}
 use lib.IntN.{ℤ}
 use lib.ListN.{length}
-use borrow.Author.Tests.{eq-eqb, ne-eqb}
 use native.Mathlib.Omega.{arith}
-use mathlib.Core.Bool.{Bool, cond}
 use Rattle.history.specs.declared.Minimum.{Minimum}
 use Rattle.history.specs.declared.Command.the-variants.{Value}
 use Rattle.history.specs.declared.Refusal.{Refusal}
 use Rattle.history.specs.declared.Reply.the-variants.{Accepted, Lowest, Refused}
 use Rattle.history.specs.Minima.{lowest}
 use Rattle.history.specs.Replies.{numbered, numberOf, told}
-use Rattle.history.specs.Histories.{History, Stepped, sessionOf, isActive, accept, step, model}
+use Rattle.history.specs.Histories.{History, Stepped, presentOf, sessionOf, isActive, accept, step, model}
 use Rattle.history.specs.Examples.{AllWorked, examples}
 use Rattle.history.specs.Traces.{AllTraced, traces, AllNumbered, refusals}
-use Rattle.history.proofs.Steps.{refusal-own, refused, step-refused, step-accepted}
+use Rattle.history.proofs.Steps.{refusal-own, last-due, earlier-free, refused, step-refused, step-accepted}
 
 -- THE PLAYED EXAMPLES, all of the list
 pub examples-worked : AllWorked examples
@@ -48,14 +46,14 @@ module _ (h : History) (n : ℕ) (v : ℤ) (z : h .words ≡ 0 → ⊥) (o : n �
   pub last-refused : length (h .values) ≡ 4294967295 → (model .tells h n (Value v) ≡ numbered 6) × (model .step h n (Value v) ≡ h)
   last-refused e =
       let d : step h n (Value v) ≡ refused h 6 =
-      step-refused h n (Value v) 6 (refusal-own (sessionOf h) n (isActive h (Value v)) (Value v) z o ∙ ap (λ (b : Bool). cond b 6 0) (eq-eqb (length (h .values)) 4294967295 e)) (λ x. omega arith) in
+      step-refused h n (Value v) 6 (refusal-own (sessionOf h) n (isActive h (Value v)) (Value v) z o ∙ last-due (presentOf h) e) (λ x. omega arith) in
       (ap (λ (x : Stepped). x .tells) d, ap (λ (x : Stepped). x .history) d)
 
   pub earlier-accepted : (length (h .values) ≡ 4294967295 → ⊥)
       → (model .tells h n (Value v) ≡ numbered 0) × (model .step h n (Value v) .values ≡ h .values ++ (v ∷ []))
   earlier-accepted e =
       let d : step h n (Value v) ≡ accept h (Value v) =
-      step-accepted h n (Value v) (refusal-own (sessionOf h) n (isActive h (Value v)) (Value v) z o ∙ ap (λ (b : Bool). cond b 6 0) (ne-eqb (length (h .values)) 4294967295 e)) in
+      step-accepted h n (Value v) (refusal-own (sessionOf h) n (isActive h (Value v)) (Value v) z o ∙ earlier-free (presentOf h) e) in
       (ap (λ (x : Stepped). x .tells) d, ap (λ (x : Stepped). x .history .values) d)
 
   -- so it is with the last but one

@@ -1,4 +1,4 @@
--- The range minimum of a mark, document 01's "dip": `lower` is the lower of two, `lowest` of all from a position on, `minimum` of all since a mark.
+-- The range minimum, document 01's "dip": `lower` is the lower of two, `lowest` of all that follow, `minimum` of all from a position on, such as a mark's.
 use mathlib.Core.Path.{_≡_}
 use mathlib.Core.Bool.{Bool, true, false, cond}
 use mathlib.Core.List.{List, [], _∷_}
@@ -44,7 +44,7 @@ abbrev pub lastOf : List ℤ → ℤ
 lastOf values = valueAt values (presentAt values)
 
 -- "The dip of an active tap i at present position j is the least of the values at i to j, and its place." An active mark stands at one
--- of the positions 1 to j; of another position this says nothing that anyone is told
+-- of the positions 1 to j, and so does a window's oldest value (document 02, point 2); outside them this says nothing that anyone is told
 abbrev pub minimum : List ℤ → Position → Minimum
 minimum values i = lowest (standsAt (valueAt values i) i) (next i) (drop (i .0) values)
 

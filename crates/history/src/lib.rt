@@ -41,7 +41,7 @@ pub struct Session {
     pub standing: Standing,
 }
 
-// Why a command, an opening or a reading is refused. Document 01's number of each is `number`.
+// Why a command, an opening or a reading is refused: document 01's list, then document 02's. The number of each is `number`.
 pub enum Refusal {
     AreaTooShort,
     UnknownKind,
@@ -54,6 +54,8 @@ pub enum Refusal {
     AlreadyClosed,
     Full,
     NotActive,
+    WidthOutOfRange,
+    TooFewWords,
 }
 
 pub enum Reply {
@@ -88,7 +90,7 @@ pub struct Transition {
     pub after: Standing,
 }
 
-// Document 01's number of a refusal.
+// A refusal's number in document 01's list or, of a window's opening, document 02's.
 pub fn number(refusal: Refusal) -> u8
     ensures { λ r. ⌜ r ≡ numberOf refusal ⌝ }
 {
@@ -104,10 +106,12 @@ pub fn number(refusal: Refusal) -> u8
         Refusal::AlreadyClosed => 9,
         Refusal::Full => 10,
         Refusal::NotActive => 11,
+        Refusal::WidthOutOfRange => 12,
+        Refusal::TooFewWords => 13,
     }
 }
 
-// Document 01's number of a reply: 0 of an acceptance.
+// The papers' number of a reply: 0 of an acceptance.
 pub fn reply_number(reply: Reply) -> u8
     ensures { λ r. ⌜ r ≡ told reply .number ⌝ }
 {

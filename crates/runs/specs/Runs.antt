@@ -8,7 +8,7 @@ use lib.Dec.{eqb}
 use lib.ListN.{length, getD}
 
 -- A model of a machine: document 01's "bookkeeper", with what stands "on the paper" for its state. It is told "the commands and the lent lengths, and nothing of the pedal's":
--- the state after a command, and what the command is told, follow from the state before it and the length lent for it
+-- the state after a command, and what the command is told, follow from the state before it, the command and the length lent for it
 pub record Model : Type 1 where
   pub Command : Type 0
   pub Told : Type 0

@@ -34,6 +34,8 @@ number-few Refusal.AlreadyMarked = omega arith
 number-few Refusal.AlreadyClosed = omega arith
 number-few Refusal.Full = omega arith
 number-few Refusal.NotActive = omega arith
+number-few Refusal.WidthOutOfRange = omega arith
+number-few Refusal.TooFewWords = omega arith
 
 -- nor has any reply's
 pub told-few : (r : Reply) → told r .number < 100

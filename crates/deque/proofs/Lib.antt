@@ -1,0 +1,5 @@
+pub mod Packing
+pub mod Suffixes
+pub mod Slots
+pub mod Searching
+pub mod Arriving

@@ -1,0 +1,3 @@
+pub mod Suffixes
+pub mod Ring
+pub mod Calls
