@@ -60,3 +60,7 @@ as-a-tap p n v h free e z a =
     ap (λ (x : Stepped). x .tells) (step-accepted p n v free)
     ∙ ap (λ (x : List ℤ). showing (least (p .width) x)) (sym e)
     ∙ sym (told-minimum h (h .words) z refl (oldest (presentAt (h .values)) (p .width)) a)
+
+-- POINT 2, where no more is known of the functions than their contracts: for a caller of the window
+pub by-contract : EveryRun Opens Does
+by-contract = every-run Opens Does (λ width first left o d. d) (λ s v lent left r d. d)
