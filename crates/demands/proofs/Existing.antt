@@ -1,15 +1,14 @@
 -- The runs exist: their calls meet the hypotheses of demand 3, so that by the engine's list theorem each was told what the bookkeeper tells, and that computes to the lines.
 use mathlib.Core.Path.{_≡_, refl, sym, ap, _∙_}
-use mathlib.Core.List.{List, [], _∷_}
+use mathlib.Core.List.{List}
 use Prim.Native.Nat.{ℕ}
 use lib.ListN.{length}
 use Rattle.history.specs.declared.Session.{Session}
 use Rattle.history.specs.declared.Command.{Command}
 use Rattle.history.specs.declared.Answer.{Answer}
 use Rattle.history.specs.Minima.{lowest}
-use Rattle.history.specs.Replies.{Told}
 use Rattle.history.specs.Histories.{History, sessionOf, opening, model}
-use Rattle.runs.specs.Runs.{Call, Made, EachCall, AllAgree}
+use Rattle.runs.specs.Runs.{Made, EachCall, AllAgree}
 use Rattle.runs.specs.Lists.{worked, stateAfterAsked}
 use Rattle.runs.proofs.Lists.{each-call}
 use Rattle.runs.proofs.Calling.{lines-worked, session-worked}

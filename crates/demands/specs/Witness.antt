@@ -13,7 +13,7 @@ use Rattle.history.specs.declared.Command.{Command}
 use Rattle.history.specs.declared.Command.the-variants.{Value, Mark, Query, Close}
 use Rattle.history.specs.declared.Answer.{Answer}
 use Rattle.history.specs.Minima.{standsAt}
-use Rattle.history.specs.Replies.{Told, numbered, accepted, showing, told}
+use Rattle.history.specs.Replies.{numbered, accepted, showing, told}
 use Rattle.history.specs.Histories.{opening, model}
 use Rattle.runs.specs.Runs.{Call, Made}
 use Rattle.runs.specs.Lists as Lists

@@ -1,6 +1,6 @@
 -- Runs of the window that are made: calls one after the other, of which its contract is known; by point 2's claim each was told what the paper tells, and that computes to the lines.
 use mathlib.Core.Path.{_≡_, refl, sym, ap, _∙_}
-use mathlib.Core.List.{List, [], _∷_}
+use mathlib.Core.List.{List, _∷_}
 use mathlib.Core.Logic.{_⊎_}
 use Prim.Native.Nat.{ℕ}
 use lib.IntN.{ℤ}

@@ -1,13 +1,12 @@
 -- Calls that are made one after the other: one call goes before those that follow it. A call lent words of the opened length is lent the opening's, and leaves them to the next one; a
 -- call lent others leaves the opening's as they were. Calls that agree with the model have the lines that it makes, and return the session of its state.
 use mathlib.Core.Path.{_≡_, refl, ap, _∙_}
-use mathlib.Core.Bool.{false}
 use mathlib.Core.List.{List, [], _∷_}
 use mathlib.Core.Logic.{_⊎_}
 use Prim.Native.Nat.{ℕ}
 use lib.ListN.{length}
 use Rattle.laws.proofs.Tests.{clash}
-use Rattle.runs.specs.Runs.{Model, isOwn, Call, AllAgree}
+use Rattle.runs.specs.Runs.{Model, Call, AllAgree}
 use Rattle.runs.specs.Lists.{Line, linesOf, askedOf, worked, stateAfterAsked, lastSession, Commanded}
 use Rattle.runs.proofs.Induction.{own-lent, other-lent}
 

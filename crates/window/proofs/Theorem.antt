@@ -13,7 +13,7 @@ use Rattle.runs.specs.Runs.{Call, stateAfter, Agrees}
 use Rattle.runs.proofs.Induction.{own-length, run}
 use Rattle.window.specs.declared.Window.{Window}
 use Rattle.window.specs.declared.Answer.{Answer}
-use Rattle.window.specs.Windows.{Paper, Stepped, opening, oldest, least, refusalOf, model}
+use Rattle.window.specs.Windows.{Paper, Stepped, opening, oldest, least, model}
 use Rattle.window.specs.Promises.{OpeningSays, ValueSays}
 use Rattle.window.specs.Claim.{Answered, Meets, EveryRun, EveryInput, AsATap}
 use Rattle.window.specs.Keeping.{Sound, Keeps}

@@ -5,7 +5,6 @@ use mathlib.Core.List.{List, [], _∷_, map}
 use Prim.Native.Nat.{ℕ}
 use lib.IntN.{ℤ, pos, negsuc}
 use lib.ListN.{length}
-use Rattle.history.specs.declared.Position.{Position}
 use Rattle.history.specs.Minima.{standsAt}
 use Rattle.history.specs.Replies.{Told, numbered, accepted, showing, told}
 use Rattle.runs.specs.Runs.{Call, Made}
