@@ -131,8 +131,11 @@ module _ (width : ℕ) (first left : List ℕ) (o : Answer) (calls : List (Call 
     later = model .step p (length (c .lent)) (c .command)
 
     pub meets : (now : List ℕ) × Meets n first now p later c
-    meets = (_, last-call model (Meets n first) n left (opening (length first) width .paper) calls c
-        (every-run width first left o (calls ++ (c ∷ [])) q (made-more model (Answered Valued) n (o .session) left calls c made lent d) .1))
+    meets = (
+      _,
+      last-call model (Meets n first) n left (opening (length first) width .paper) calls c
+          (every-run width first left o (calls ++ (c ∷ [])) q (made-more model (Answered Valued) n (o .session) left calls c made lent d) .1),
+    )
 
     -- the reply, and the session's numbers
     pub value-told : c .told ≡ model .tells p (length (c .lent)) (c .command)
