@@ -1,5 +1,5 @@
-// The worked examples of document 01 and answers that follow from it, played on the engine. What each call answers is printed, and the file
-// `stdout` beside this folder says what document 01 has it answer, worked out by hand.
+// The worked examples of document 01 and answers that follow from it, played on the engine, and cases of document 02's window. What each call answers is printed, and
+// the file `stdout` beside this folder says what the documents have it answer, worked out by hand.
 mod bytes;
 mod call;
 mod edges;
@@ -9,6 +9,7 @@ mod print;
 mod refusals;
 mod rounds;
 mod script;
+mod windows;
 
 fn main() {
     examples::openings();
@@ -16,4 +17,5 @@ fn main() {
     bytes::sequences();
     edges::sequences();
     refusals::sequences();
+    windows::sequences();
 }

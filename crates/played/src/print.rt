@@ -14,7 +14,7 @@ pub fn number(n: u64) {
     io::print_decimal(STDOUT_FILENO, n);
 }
 
-fn signed(v: i32) {
+pub fn signed(v: i32) {
     if v < 0 {
         text(b"-");
     }
