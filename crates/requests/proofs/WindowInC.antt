@@ -163,23 +163,23 @@ told-value {s} {lent = lent} d = elim (ℕ-discrete (s .words) 0) [
 
 -- so whatever C is told is of an answer
 open-answer : (width : ℕ) (first left : List ℕ) (r : WindowOutcome) → OpenTold width first left r → (a : Answer) × OpeningIs r a
-open-answer width first left r (κs, x, d) = (d .answer, d .numbers, ap toldByOpening (d .numbers) ∙ told-opening (d .opens))
+open-answer width first left r (κs, x, d) = (d .answer, (d .numbers, ap toldByOpening (d .numbers) ∙ told-opening (d .opens)))
 
 value-answer : (s : WindowNumbers) (v : ℤ) (lent left : List ℕ) (r : WindowOutcome) → ValueTold s v lent left r → (a : Answer) × ValueIs r a
-value-answer s v lent left r (κs, x, d) = (d .answer, d .numbers, ap toldByValue (d .numbers) ∙ told-value (d .does))
+value-answer s v lent left r (κs, x, d) = (d .answer, (d .numbers, ap toldByValue (d .numbers) ∙ told-value (d .does)))
 
 -- and of one alone, as far as the claim goes: another answer of these numbers has its session, and tells what it tells
 same-session : {r : WindowOutcome} (a b : Answer) → r ≡ outcomeOf a → r ≡ outcomeOf b → a .session ≡ b .session
 same-session a b e f = ap (λ (x : WindowOutcome). windowFrom (x .session)) (sym e ∙ f)
 
 opens : (width : ℕ) (first left : List ℕ) (a : Answer) → Opened width first left a → Opens width first left a
-opens width first left a (r, (κs, x, d), n, t) =
+opens width first left a (r, (κs, x, d), (n, t)) =
     let e : told (d .answer .reply) ≡ told (a .reply) = sym (told-opening (d .opens)) ∙ ap toldByOpening (sym (d .numbers)) ∙ t in
     let f : d .answer .session ≡ a .session = same-session (d .answer) a (d .numbers) n in
     record { any = rw (e, f) at (d .opens .any); tells = sym e ∙ d .opens .tells; represents = rw f at (d .opens .represents); rest = d .opens .rest }
 
 does : (s : Window) (v : ℤ) (lent left : List ℕ) (a : Answer) → Valued s v lent left a → Does s v lent left a
-does s v lent left a (r, (κs, x, d), n, t) =
+does s v lent left a (r, (κs, x, d), (n, t)) =
     let e : told (d .answer .reply) ≡ told (a .reply) = sym (told-value (d .does)) ∙ ap toldByValue (sym (d .numbers)) ∙ t in
     let f : d .answer .session ≡ a .session = same-session (d .answer) a (d .numbers) n in
     record {
