@@ -1,11 +1,9 @@
 -- A window's sessions and answers as the numbers that C passes, and what the exported calls promise: each is the window's own call, on the session that the numbers stand for, in numbers.
 use mathlib.Core.Path.{_≡_}
-use mathlib.Core.Bool.{cond}
 use mathlib.Core.List.{List}
 use Prim.Native.Nat.{ℕ}
 use lib.IntN.{ℤ}
-use lib.Dec.{eqb}
-use Rattle.history.specs.Replies.{Told, numbered, showing, told}
+use Rattle.history.specs.Replies.{Told, told}
 use Rattle.window.specs.declared.Window.{Window}
 use Rattle.window.specs.declared.Answer.{Answer}
 use Rattle.window.specs.Contracts.{Opens, Does}
@@ -26,13 +24,6 @@ inNumbers s t = record { session = numbersOf s; number = t .number; value = show
 
 abbrev pub outcomeOf : Answer → WindowOutcome
 outcomeOf a = inNumbers (a .session) (told (a .reply))
-
--- what the numbers of an answer tell: an opening shows nothing, and a value shows its value and place just where the reply is 0
-abbrev pub toldByOpening : WindowOutcome → Told
-toldByOpening r = numbered (r .number)
-
-abbrev pub toldByValue : WindowOutcome → Told
-toldByValue r = cond (eqb (r .number) 0) (showing (record { value = r .value; place = record { 0 = r .place } })) (numbered (r .number))
 
 -- AN OPENING: the window's, in numbers
 pub record Opened (width : ℕ) (before after : List ℕ) (r : WindowOutcome) : Type 0 where

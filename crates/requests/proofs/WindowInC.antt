@@ -15,7 +15,7 @@ use denote.Ref.{RefT, at-last}
 use denote.Signature.{plain}
 use denote.Builtin.{SliceRefMutOf, u64, usize, i32}
 use denote.Struct.Field.{usize-field, u32-field, i32-field}
-use Rattle.history.specs.Replies.{Told, numbered, accepted, told}
+use Rattle.history.specs.Replies.{Told, numbered, accepted, showing, told}
 use Rattle.window.specs.declared.Window.{Window}
 use Rattle.window.specs.declared.Answer.{Answer}
 use Rattle.window.specs.Windows.{Paper, Stepped, blank, openingRefusal}
@@ -25,7 +25,7 @@ use Rattle.window.specs.Contracts.{Opens, Does}
 use Rattle.window.proofs.Theorem as theorem
 use Rattle.firmware.specs.declared.windows.WindowNumbers.{WindowNumbers}
 use Rattle.firmware.specs.declared.windows.WindowOutcome.{WindowOutcome}
-use Rattle.firmware.specs.Windows.{windowFrom, numbersOf, inNumbers, outcomeOf, toldByOpening, toldByValue}
+use Rattle.firmware.specs.Windows.{windowFrom, numbersOf, inNumbers, outcomeOf}
 use Rattle.firmware.proofs.windows.WindowNumbers as session-type
 use Rattle.firmware.proofs.windows.WindowOutcome as answer-type
 use Rattle.firmware.proofs.filkotar_window_open as open-function
@@ -53,7 +53,11 @@ value-takes = refl
 value-gives : value-function.signature .result ≡ plain (λ κs. answer-type.the-row)
 value-gives = refl
 
--- neither asks for anything
+-- an answer that shows nothing: value and place are 0
+abbrev plainly : (words width present number : ℕ) → WindowOutcome
+plainly words width present number = record { session = record { words = words; width = width; present = present }; number = number; value = pos 0; place = 0 }
+
+-- neither function asks for anything
 open-asks-nothing : (κs : Lfts 1) (x : RefT (List ℕ)) (width : ℕ) → open-reads.Asked κs (x, (width, tt))
 open-asks-nothing κs x width = tt
 
@@ -67,10 +71,7 @@ OpenTold width before after r = (κs : Lfts 1) × (x : RefT (List ℕ)) × open-
 abbrev ValueTold : WindowNumbers → ℤ → List ℕ → List ℕ → WindowOutcome → Type 0
 ValueTold s v before after r = (κs : Lfts 1) × (x : RefT (List ℕ)) × value-reads.Learnt κs (s, (at-last x before, (v, tt))) r (s, (at-last x after, (v, tt)))
 
--- ON ANY NUMBERS AND ANY WORDS. An answer that shows nothing: value and place are 0
-abbrev plainly : (words width present number : ℕ) → WindowOutcome
-plainly words width present number = record { session = record { words = words; width = width; present = present }; number = number; value = pos 0; place = 0 }
-
+-- ON ANY NUMBERS AND ANY WORDS
 -- the numbers of an answer whose session and reply are known; and of a refusal
 numbers-of : {r : WindowOutcome} {s : Window} {t : Told} (a : Answer) → r ≡ outcomeOf a → a .session ≡ s → told (a .reply) ≡ t → r ≡ inNumbers s t
 numbers-of a n e f = n ∙ (λ i. inNumbers (e i) (f i))
@@ -122,7 +123,14 @@ module _ (s : WindowNumbers) (v : ℤ) (before after : List ℕ) (r : WindowOutc
   value-long : length after ≡ length before
   value-long = t .2 .does .any .long
 
--- OVER THE WHOLE LIST. The numbers r are those of the answer a, zeros where it shows nothing, and a caller who goes by r's number takes them to tell what a tells
+-- OVER THE WHOLE LIST. What the numbers of an answer tell: an opening's show nothing, and a value's show value and place just where the number is 0
+abbrev toldByOpening : WindowOutcome → Told
+toldByOpening r = numbered (r .number)
+
+abbrev toldByValue : WindowOutcome → Told
+toldByValue r = cond (eqb (r .number) 0) (showing (record { value = r .value; place = record { 0 = r .place } })) (numbered (r .number))
+
+-- r are the numbers of the answer a, zeros where it shows nothing, and they tell what a tells
 abbrev OpeningIs : WindowOutcome → Answer → Type 0
 OpeningIs r a = (r ≡ outcomeOf a) × (toldByOpening r ≡ told (a .reply))
 
