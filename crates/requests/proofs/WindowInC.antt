@@ -71,8 +71,7 @@ OpenTold width before after r = (κs : Lfts 1) × (x : RefT (List ℕ)) × open-
 abbrev ValueTold : WindowNumbers → ℤ → List ℕ → List ℕ → WindowOutcome → Type 0
 ValueTold s v before after r = (κs : Lfts 1) × (x : RefT (List ℕ)) × value-reads.Learnt κs (s, (at-last x before, (v, tt))) r (s, (at-last x after, (v, tt)))
 
--- ON ANY NUMBERS AND ANY WORDS
--- the numbers of an answer whose session and reply are known; and of a refusal
+-- ON ANY NUMBERS AND ANY WORDS. The numbers of an answer whose session and reply are known, and of a refusal
 numbers-of : {r : WindowOutcome} {s : Window} {t : Told} (a : Answer) → r ≡ outcomeOf a → a .session ≡ s → told (a .reply) ≡ t → r ≡ inNumbers s t
 numbers-of a n e f = n ∙ (λ i. inNumbers (e i) (f i))
 
