@@ -39,7 +39,7 @@ uint16_t filkotar_gain(int32_t value);
  * A look-ahead window. It is given values one by one, and tells after each the least of the last W of them, and where that stands; while fewer than W
  * have come, the least of all. With W = 144 these are the last three milliseconds at 48 kHz. The first value has position 1, the next 2, and so on.
  *
- *     uint64_t area[2 * 144];
+ *     static uint64_t area[2 * 144];
  *     filkotar_window_answer a = filkotar_window_open(area, 2 * 144, 144);
  *     a = filkotar_window_value(a.session, area, 2 * 144, -3);         a.value is -3, and a.place is 1
  *     a = filkotar_window_value(a.session, area, 2 * 144, 7);          a.value is -3, and a.place is 1
@@ -95,7 +95,7 @@ FILKOTAR_SAME(__builtin_offsetof(filkotar_window_answer, place), 32);
  *     length is less than 2 * width       number 13
  *     any other                           number 0: the window is open, session is { length, width, 0 }
  *
- * With 12 and 13 no word is written, and session is { 0, 0, 0 }, which is not open. value and place are 0.
+ * With 12 and 13 no word is written, and session is { 0, 0, 0 }, which is not open. In each case value and place are 0.
  */
 filkotar_window_answer filkotar_window_open(uint64_t *area, uint64_t length, uint64_t width);
 

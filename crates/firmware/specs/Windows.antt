@@ -26,13 +26,13 @@ abbrev pub outcomeOf : Answer → WindowOutcome
 outcomeOf a = inNumbers (a .session) (told (a .reply))
 
 -- AN OPENING: the window's, in numbers
-pub record Opened (width : ℕ) (before after : List ℕ) (r : WindowOutcome) : Type 0 where
+pub record OpensInNumbers (width : ℕ) (before after : List ℕ) (r : WindowOutcome) : Type 0 where
   pub answer : Answer
   pub opens : Opens width before after answer
   pub numbers : r ≡ outcomeOf answer
 
 -- A VALUE: the window's, on the session that the numbers stand for, in numbers
-pub record Valued (s : WindowNumbers) (v : ℤ) (before after : List ℕ) (r : WindowOutcome) : Type 0 where
+pub record DoesInNumbers (s : WindowNumbers) (v : ℤ) (before after : List ℕ) (r : WindowOutcome) : Type 0 where
   pub answer : Answer
   pub does : Does (windowFrom s) v before after answer
   pub numbers : r ≡ outcomeOf answer

@@ -53,6 +53,13 @@ value-takes = refl
 value-gives : value-function.signature .result ≡ plain (λ κs. answer-type.the-row)
 value-gives = refl
 
+-- a session that C gets as numbers, and hands in again, is the same session; and any numbers that C hands in are those of a session
+session-back : (s : Window) → windowFrom (numbersOf s) ≡ s
+session-back s = refl
+
+numbers-back : (s : WindowNumbers) → numbersOf (windowFrom s) ≡ s
+numbers-back s = refl
+
 -- an answer that shows nothing: value and place are 0
 abbrev plainly : (words width present number : ℕ) → WindowOutcome
 plainly words width present number = record { session = record { words = words; width = width; present = present }; number = number; value = pos 0; place = 0 }
