@@ -1,8 +1,9 @@
 /*
  * Filkotar for C firmware. This header declares the functions of libfilkotar.a, which tools/library builds for x86-64 (System V calling convention).
  *
- * Each function is proved to keep the promise beside it for every argument, and to return; README.md says what the proof rests on. It writes no memory
- * but its own stack, its answer and the words that it is lent, and keeps nothing else between calls. The library needs no other.
+ * Each function is proved to keep the promise beside it, and to return, whatever numbers it is handed and whatever stands in the words that it is lent;
+ * README.md says what the proof rests on. It writes no memory but its own stack, its answer and those words, and keeps nothing else between calls. The
+ * library needs no other.
  *
  * What a call takes, beside its arguments, its answer and its return address:
  *
