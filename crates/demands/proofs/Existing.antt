@@ -1,50 +1,27 @@
 -- The runs exist: their calls meet the hypotheses of demand 3, so that by the engine's list theorem each was told what the bookkeeper tells, and that computes to the lines.
 use mathlib.Core.Path.{_≡_, refl, sym, ap, _∙_}
-use mathlib.Core.List.{List, [], _∷_}
+use mathlib.Core.List.{List}
 use Prim.Native.Nat.{ℕ}
 use lib.ListN.{length}
 use Rattle.history.specs.declared.Session.{Session}
 use Rattle.history.specs.declared.Command.{Command}
 use Rattle.history.specs.declared.Answer.{Answer}
 use Rattle.history.specs.Minima.{lowest}
-use Rattle.history.specs.Replies.{Told}
 use Rattle.history.specs.Histories.{History, sessionOf, opening, model}
-use Rattle.runs.specs.Runs.{Call, Made, EachCall, AllAgree}
-use Rattle.runs.specs.Lists.{lastSession}
+use Rattle.runs.specs.Runs.{Made, EachCall, AllAgree}
+use Rattle.runs.specs.Lists.{worked, stateAfterAsked}
 use Rattle.runs.proofs.Lists.{each-call}
+use Rattle.runs.proofs.Calling.{lines-worked, session-worked}
 use Rattle.engine.specs.Demand.{Answered, OpeningAgrees, Meets}
 use Rattle.engine.specs.Contracts.{Opens, Does}
 use Rattle.engine.proofs.Theorem.{by-contract}
-use Rattle.demands.specs.Witness.{Line, linesOf, asked, lines, RunExists}
-use Rattle.demands.specs.Private.{askedOf, Commanded}
-
--- what the bookkeeper makes of commands and lengths: the lines, and the state after them
-abbrev worked : History → List (Command × ℕ) → List Line
-worked h [] = []
-worked h ((k, n) ∷ asks) = (k, n, model .tells h n k) ∷ worked (model .step h n k) asks
-
-abbrev stateAfterAsked : History → List (Command × ℕ) → History
-stateAfterAsked h [] = h
-stateAfterAsked h ((k, n) ∷ asks) = stateAfterAsked (model .step h n k) asks
+use Rattle.demands.specs.Witness.{Line, asked, lines, RunExists}
+use Rattle.demands.specs.Private.{Commanded}
 
 -- the lines of the run are the bookkeeper's
-pub lines-computed : worked (opening 640 .history) (asked lines) ≡ lines
+pub lines-computed : worked model (opening 640 .history) (asked lines) ≡ lines
 unfolding lowest
 lines-computed = refl
-
-module _ (n : ℕ) (first : List ℕ) where
-  -- calls that agree have the lines that the bookkeeper makes of what they were asked
-  lines-worked : (words : List ℕ) (h : History) (cs : List (Call model)) → AllAgree model n first words h cs → linesOf cs ≡ worked h (askedOf cs)
-  lines-worked words h [] a = refl
-  lines-worked words h (c ∷ cs) a =
-      ap (λ (t : Told). (c .command, length (c .lent), t) ∷ linesOf cs) (a .0 .tells)
-      ∙ ap (λ (ls : List Line). (c .command, length (c .lent), model .tells h (length (c .lent)) (c .command)) ∷ ls) (lines-worked _ _ cs (a .1))
-
-  -- and return the session of its paper
-  session-worked : (words : List ℕ) (h : History) (s : Session) (cs : List (Call model)) → s ≡ sessionOf h → AllAgree model n first words h cs
-      → lastSession model s cs ≡ sessionOf (stateAfterAsked h (askedOf cs))
-  session-worked words h s [] e a = e
-  session-worked words h s (c ∷ cs) e a = session-worked _ _ (c .session) cs (a .0 .session) (a .1)
 
 module _ (n : ℕ) (ls : List Line) {first left after : List ℕ} {o : Answer} {r : Session} (l : length first ≡ n) (p : Opens first left o)
     (m : Commanded (opening n .history .words) (o .session) left after (asked ls) r) where
@@ -62,7 +39,7 @@ module _ (n : ℕ) (ls : List Line) {first left after : List ℕ} {o : Answer} {
   agrees = each-call model (Meets (start .words) first) _ (λ now h later c x. x .agrees) (start .words) left start (m .calls) (rw l at (demand .1))
 
   -- A RUN EXISTS where an opening of n words was made and then calls whose lines the bookkeeper works out; and the session after it is the paper's
-  pub run-exists : worked start (asked ls) ≡ ls → RunExists n ls Opens Does r × (r ≡ sessionOf (stateAfterAsked start (asked ls)))
+  pub run-exists : worked model start (asked ls) ≡ ls → RunExists n ls Opens Does r × (r ≡ sessionOf (stateAfterAsked model start (asked ls)))
   run-exists w = (
     record {
       first = first;
@@ -73,10 +50,10 @@ module _ (n : ℕ) (ls : List Line) {first left after : List ℕ} {o : Answer} {
       tells = rw l at (demand .0 .tells);
       made = made;
       long = l;
-      plays = lines-worked (start .words) first left start (m .calls) agrees ∙ ap (worked start) (m .asked) ∙ w;
+      plays = lines-worked model (start .words) first left start (m .calls) agrees ∙ ap (worked model start) (m .asked) ∙ w;
       returned = m .returned;
     },
     sym (m .returned)
-        ∙ session-worked (start .words) first left start (o .session) (m .calls) (rw l at (demand .0 .session)) agrees
-        ∙ ap (λ (x : List (Command × ℕ)). sessionOf (stateAfterAsked start x)) (m .asked),
+        ∙ session-worked model (start .words) first left start (o .session) (m .calls) (rw l at (demand .0 .session)) agrees
+        ∙ ap (λ (x : List (Command × ℕ)). sessionOf (stateAfterAsked model start x)) (m .asked),
   )

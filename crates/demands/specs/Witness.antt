@@ -13,25 +13,20 @@ use Rattle.history.specs.declared.Command.{Command}
 use Rattle.history.specs.declared.Command.the-variants.{Value, Mark, Query, Close}
 use Rattle.history.specs.declared.Answer.{Answer}
 use Rattle.history.specs.Minima.{standsAt}
-use Rattle.history.specs.Replies.{Told, numbered, accepted, showing, told}
+use Rattle.history.specs.Replies.{numbered, accepted, showing, told}
 use Rattle.history.specs.Histories.{opening, model}
 use Rattle.runs.specs.Runs.{Call, Made}
-use Rattle.runs.specs.Lists.{lastSession}
+use Rattle.runs.specs.Lists as Lists
+use Rattle.runs.specs.Lists.{linesOf, lastSession}
 use Rattle.engine.specs.Demand.{OpeningSays, CommandSays, Answered}
 
 -- "The bookkeeper is told .. each command with its argument and the length lent for it"; and what the caller is told
 abbrev pub Line : Type 0
-Line = Command × ℕ × Told
-
--- the lines of calls that were made
-abbrev pub linesOf : List (Call model) → List Line
-linesOf [] = []
-linesOf (c ∷ cs) = (c .command, length (c .lent), c .told) ∷ linesOf cs
+Line = Lists.Line model
 
 -- lines without what was told
 abbrev pub asked : List Line → List (Command × ℕ)
-asked [] = []
-asked ((c, n, t) ∷ ls) = (c, n) ∷ asked ls
+asked ls = Lists.asked model ls
 
 abbrev at : ℕ → Position
 at n = record { 0 = n }
@@ -93,5 +88,5 @@ pub record RunExists (n : ℕ) (ls : List Line) (opens : OpeningSays) (says : Co
   pub tells : told (o .reply) ≡ opening n .tells
   pub made : Made model (Answered says) (opening (length first) .history .words) (o .session) left calls
   pub long : length first ≡ n
-  pub plays : linesOf calls ≡ ls
+  pub plays : linesOf model calls ≡ ls
   pub returned : lastSession model (o .session) calls ≡ r

@@ -1,7 +1,7 @@
 -- An entry and its word: the word reads back as the entry, and the words of larger values are larger.
 use mathlib.Core.Path.{_≡_, sym, ap, _∙_}
 use mathlib.Core.Logic.{⊎-elim}
-use Prim.Native.Nat.{ℕ, _+_, _*_, _/_, _%_, _<_, _≤_}
+use Prim.Native.Nat.{ℕ, _*_, _/_, _%_, _<_, _≤_}
 use native.Mathlib.Omega.{arith}
 use lib.Dec.{leb}
 use lib.IntN.{ℤ}
@@ -12,7 +12,7 @@ use Rattle.laws.proofs.Tests.{lt-or-ge}
 use Rattle.history.specs.declared.Minimum.{Minimum}
 use Rattle.history.specs.Minima.{takesOver}
 use Rattle.signed.specs.Word.{wordOf, valueOf}
-use Rattle.signed.proofs.Offset.{back, up-small}
+use Rattle.signed.proofs.Offset.{back}
 use Rattle.signed.proofs.Ordered.{ordered}
 use Rattle.deque.specs.Ring.{packed, valueIn, unpacked}
 

@@ -1,10 +1,10 @@
--- Lists of commands, each lent n words, as a model works them out; what stands in a list of calls; and calls that are each lent what the last one left.
+-- Lists of commands, as a model works them out; what stands in a list of calls; calls that are each lent what the last one left; and runs that were made, line by line.
 use mathlib.Core.Path.{_≡_}
 use mathlib.Core.List.{List, [], _∷_}
 use mathlib.Core.Bool.{cond}
 use Prim.Native.Nat.{ℕ}
 use lib.ListN.{length}
-use Rattle.runs.specs.Runs.{Model, isOwn, Call}
+use Rattle.runs.specs.Runs.{Model, isOwn, Call, Made}
 
 module _ (M : Model) where
   -- what the model tells the commands
@@ -53,3 +53,40 @@ module _ (M : Model) where
   abbrev pub lastWords : List ℕ → List (Call M) → List ℕ
   lastWords words [] = words
   lastWords words (c ∷ cs) = lastWords (c .left) cs
+
+  -- a line of a run: a command, the length lent for it, and what it was told
+  abbrev pub Line : Type 0
+  Line = M .Command × ℕ × M .Told
+
+  -- the lines of calls that were made
+  abbrev pub linesOf : List (Call M) → List Line
+  linesOf [] = []
+  linesOf (c ∷ cs) = (c .command, length (c .lent), c .told) ∷ linesOf cs
+
+  -- lines without what was told; and the commands of calls, with the lengths lent for them
+  abbrev pub asked : List Line → List (M .Command × ℕ)
+  asked [] = []
+  asked ((c, n, t) ∷ ls) = (c, n) ∷ asked ls
+
+  abbrev pub askedOf : List (Call M) → List (M .Command × ℕ)
+  askedOf [] = []
+  askedOf (c ∷ cs) = (c .command, length (c .lent)) ∷ askedOf cs
+
+  -- the lines that the model makes of commands and lengths, and its state after them
+  abbrev pub worked : M .State → List (M .Command × ℕ) → List Line
+  worked h [] = []
+  worked h ((k, n) ∷ asks) = (k, n, M .tells h n k) ∷ worked (M .step h n k) asks
+
+  abbrev pub stateAfterAsked : M .State → List (M .Command × ℕ) → M .State
+  stateAfterAsked h [] = h
+  stateAfterAsked h ((k, n) ∷ asks) = stateAfterAsked (M .step h n k) asks
+
+  -- calls of these commands and lengths were made after an opening of n words, `did` being known of each, from the session s and the opening's words `before`, which they left as `after`;
+  -- r is the session after them
+  pub record Commanded (did : M .Session → Call M → Type 0) (n : ℕ) (s : M .Session) (before after : List ℕ) (asks : List (M .Command × ℕ)) (r : M .Session) : Type 0 where
+    pub calls : List (Call M)
+    pub made : Made M did n s before calls
+    pub asked : askedOf calls ≡ asks
+    pub returned : lastSession s calls ≡ r
+    pub leaves : wordsAfterAll n before calls ≡ after
+    pub long : length after ≡ length before

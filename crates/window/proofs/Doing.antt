@@ -19,7 +19,6 @@ use Rattle.runs.specs.Runs.{AsLent}
 use Rattle.deque.specs.Ring.{Holds}
 use Rattle.deque.specs.Calls.{Cleared, Arrived}
 use Rattle.window.specs.declared.Window.{Window}
-use Rattle.window.specs.declared.Answer.{Answer}
 use Rattle.window.specs.Windows.{Paper, sessionOf, openingRefusal, blank, oldest, refusalOf, accept, step}
 use Rattle.window.specs.Promises.{windowOf, AnyOpening, AnyValue}
 use Rattle.window.specs.Keeping.{Sound, Keeps, Represents}

@@ -1,13 +1,13 @@
 -- The window's oldest position: it is the first whose value has not left, and with each value it stays or moves on by one.
 use mathlib.Core.Path.{_≡_, ap}
 use mathlib.Core.Logic.{_⊎_, inl, inr, ⊎-elim}
-use Prim.Native.Nat.{ℕ, _+_, _-_, _<_, _≤_, max}
+use Prim.Native.Nat.{ℕ, _+_, _-_, _<_, _≤_}
 use native.Mathlib.Omega.{arith}
 use Rattle.laws.proofs.Tests.{lt-or-ge}
 use Rattle.history.specs.declared.Position.{Position}
 use Rattle.history.specs.Minima.{next}
 use Rattle.window.specs.Windows.{oldest}
-use Rattle.window.specs.Claim.{FirstInside, OldestInside}
+use Rattle.window.specs.Claim.{OldestInside}
 
 -- THE OLDEST IS THE FIRST INSIDE
 pub oldest-inside : OldestInside

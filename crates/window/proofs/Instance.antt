@@ -3,7 +3,6 @@
 use mathlib.Core.Path.{_≡_, refl, sym, ap, _∙_}
 use mathlib.Core.List.{List}
 use mathlib.Core.Logic.{_⊎_, inl, inr}
-use mathlib.Core.Bool.{false}
 use Prim.Native.Nat.{ℕ}
 use native.Mathlib.Omega.{arith}
 use native.Mathlib.Decide.{ℕ-discrete}
@@ -12,7 +11,7 @@ use lib.ListN.{length}
 use Rattle.history.specs.Minima.{presentAt}
 use Rattle.history.specs.Replies.{valueRefusal}
 use Rattle.history.proofs.Steps.{lent-unopened, lent-other}
-use Rattle.runs.specs.Runs.{isOwn, Call}
+use Rattle.runs.specs.Runs.{Call}
 use Rattle.runs.proofs.Induction.{OneCall, own-length, own-lent, other-length}
 use Rattle.window.specs.declared.Window.{Window}
 use Rattle.window.specs.declared.Answer.{Answer}

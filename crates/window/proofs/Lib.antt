@@ -4,3 +4,4 @@ pub mod Doing
 pub mod Instance
 pub mod Theorem
 pub mod Tied
+pub mod Examples

@@ -2,7 +2,7 @@
 use mathlib.Core.Path.{_≡_, refl, sym, ap, _∙_}
 use mathlib.Core.Bool.{Bool, true, false, cond}
 use mathlib.Core.List.{List, [], _∷_, _++_}
-use mathlib.Core.Logic.{_⊎_, inl, inr, ⊎-elim}
+use mathlib.Core.Logic.{_⊎_, ⊎-elim}
 use mathlib.Core.Option.{none, some}
 use Prim.Native.Nat.{ℕ, _*_, _<_, _≤_}
 use native.Mathlib.Decide.{ℕ-discrete}
@@ -13,13 +13,13 @@ use lib.ListN.{length, length-append}
 use borrow.Author.Tests.{le-leb, lt-leb, lt-ltb, le-ltb, ne-eqb}
 use Rattle.laws.proofs.Tests.{lt-or-ge}
 use Rattle.history.specs.declared.Minimum.{Minimum}
-use Rattle.history.specs.Minima.{Least, presentAt, next}
+use Rattle.history.specs.Minima.{Least, presentAt}
 use Rattle.history.specs.Replies.{numbered, accepted, valueRefusal}
 use Rattle.history.proofs.Steps.{lent-none, free-earlier}
 use Rattle.history.proofs.Lowest.{minimum-least}
 use Rattle.window.specs.Windows.{Paper, Stepped, openingRefusal, blank, opening, oldest, least, refusalOf, accept, step}
 use Rattle.window.specs.Keeping.{Sound}
-use Rattle.window.proofs.Inside.{oldest-inside, newest-inside}
+use Rattle.window.proofs.Inside.{oldest-inside}
 
 -- 12, 13 and none, of an opening of n words
 module _ (n width : ℕ) where

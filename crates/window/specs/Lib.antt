@@ -4,3 +4,4 @@ pub mod Claim
 pub mod Keeping
 pub mod Contracts
 pub mod Private
+pub mod Examples

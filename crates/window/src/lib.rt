@@ -65,7 +65,7 @@ pub fn open(area: &mut [u64], width: usize) -> Answer
     ensures { λ r. ⌜ Opens width (now (area .entry)) (now (area .exit)) r ⌝ }
 {
     let n = area.len();
-    if width == 0 {
+    if width < 1 {
         return unopened(Refusal::WidthOutOfRange);
     }
     if deque::MOST_SLOTS < width {

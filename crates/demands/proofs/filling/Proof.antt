@@ -1,6 +1,7 @@
 -- `demands::filling` meets its contract: its calls are put before one another, from the last to the first.
 use borrow.Author.Needs.{needs}
-use Rattle.demands.proofs.Calling.{none-left, own-then}
+use Rattle.runs.proofs.Calling.{none-left}
+use Rattle.demands.proofs.Calling.{own-then}
 use Rattle.demands.proofs.filling.Statement.{statement}
 use Rattle.demands.proofs.filling.Tie as tie
 

@@ -4,7 +4,8 @@ use mathlib.Core.Path.{refl, _∙_}
 use Prim.Native.Nat.{ℕ}
 use lib.ListN.{length-replicate}
 use Rattle.demands.specs.Witness.{unopened}
-use Rattle.demands.proofs.Calling.{none-left, unopened-then}
+use Rattle.runs.proofs.Calling.{none-left}
+use Rattle.demands.proofs.Calling.{unopened-then}
 use Rattle.demands.proofs.Existing.{run-exists}
 use Rattle.demands.proofs.refused_run.Statement.{statement}
 use Rattle.demands.proofs.refused_run.Tie as tie
