@@ -1,11 +1,19 @@
 /*
  * Filkotar for C firmware. This header declares the functions of libfilkotar.a, which tools/library builds for x86-64 (System V calling convention).
  *
- * Each function is proved to keep the promise beside it for every argument, and to return; README.md says what the proof rests on. It writes no memory
- * but its own stack and keeps nothing between calls. The library needs no other.
+ * Each function is proved to keep the promise beside it, and to return, whatever numbers it is handed and whatever stands in the words that it is lent;
+ * README.md says what the proof rests on. It writes no memory but its own stack, its answer and those words, and keeps nothing else between calls. The
+ * library needs no other.
  *
- * A call takes up to 488 bytes of stack and the register xmm0. 128 of the bytes are below the stack pointer, in the red zone of the calling convention:
- * where an interrupt handler runs on the same stack, it has to leave these as they are.
+ * What a call takes, beside its arguments, its answer and its return address:
+ *
+ *                              bytes of stack    of these below the stack pointer    registers other than the general ones
+ *     filkotar_gain            488               128                                 xmm0
+ *     filkotar_window_open     0                 0                                   none
+ *     filkotar_window_value    56                8                                   none
+ *
+ * Those below the stack pointer are in the red zone of the calling convention: where an interrupt handler runs on the same stack, it has to leave these
+ * as they are.
  */
 #ifndef FILKOTAR_H
 #define FILKOTAR_H
@@ -27,6 +35,88 @@ extern "C" {
  * The second is 32768 lowered by n quarter decibels and rounded down. So -80 gives 3276, -240 gives 32 and -241 gives 0. Every value has a gain, INT32_MIN and INT32_MAX too. A higher value never has a lower gain.
  */
 uint16_t filkotar_gain(int32_t value);
+
+/*
+ * A look-ahead window. It is given values one by one, and tells after each the least of the last W of them, and where that stands; while fewer than W
+ * have come, the least of all. With W = 144 these are the last three milliseconds at 48 kHz. The first value has position 1, the next 2, and so on.
+ *
+ *     static uint64_t area[2 * 144];
+ *     filkotar_window_answer a = filkotar_window_open(area, 2 * 144, 144);
+ *     a = filkotar_window_value(a.session, area, 2 * 144, -3);         a.value is -3, and a.place is 1
+ *     a = filkotar_window_value(a.session, area, 2 * 144, 7);          a.value is -3, and a.place is 1
+ *
+ * You lend the window an array of 64-bit words, 2 * W or more, and lend it again, whole, with each value. What these hold before the opening does not
+ * matter. From then on the first 2 * W are the window's: the answers below are for words that nobody else has written since the last call. The words
+ * beyond stay yours, and no call writes them.
+ *
+ * A session holds the rest of what the window knows. Hand in the one that the last answer has. Windows with sessions and words of their own do not
+ * disturb one another.
+ *
+ * In every call `area` points to `length` words, which nothing else uses while the call runs. Where `length` is 0 it points to none, and may be a null
+ * pointer.
+ */
+typedef struct {
+    uint64_t words;   /* how many words were lent at the opening; 0: the window is not open */
+    uint64_t width;   /* W */
+    uint32_t present; /* how many values were accepted: the position of the last one */
+} filkotar_window;
+
+typedef struct {
+    filkotar_window session; /* for the next call */
+    uint32_t number;         /* 0, or why the call was refused */
+    int32_t value;           /* after a value that was accepted, the least of the last W; else 0 */
+    uint32_t place;          /* and its position; else 0 */
+} filkotar_window_answer;
+
+/* The layout that the library goes by. Compilers from C11 and C++11 on compare it. */
+#if defined(__cplusplus) && __cplusplus >= 201103L
+#define FILKOTAR_SAME(a, b) static_assert((a) == (b), "filkotar.h: the compiler lays out " #a " otherwise than the library")
+#elif defined(__STDC_VERSION__) && __STDC_VERSION__ >= 201112L
+#define FILKOTAR_SAME(a, b) _Static_assert((a) == (b), "filkotar.h: the compiler lays out " #a " otherwise than the library")
+#endif
+#ifdef FILKOTAR_SAME
+FILKOTAR_SAME(sizeof(filkotar_window), 24);
+FILKOTAR_SAME(sizeof(filkotar_window_answer), 40);
+#ifdef __GNUC__
+FILKOTAR_SAME(__builtin_offsetof(filkotar_window, words), 0);
+FILKOTAR_SAME(__builtin_offsetof(filkotar_window, width), 8);
+FILKOTAR_SAME(__builtin_offsetof(filkotar_window, present), 16);
+FILKOTAR_SAME(__builtin_offsetof(filkotar_window_answer, session), 0);
+FILKOTAR_SAME(__builtin_offsetof(filkotar_window_answer, number), 24);
+FILKOTAR_SAME(__builtin_offsetof(filkotar_window_answer, value), 28);
+FILKOTAR_SAME(__builtin_offsetof(filkotar_window_answer, place), 32);
+#endif
+#undef FILKOTAR_SAME
+#endif
+
+/*
+ * Opens a window of the last `width` values. The first line that applies:
+ *
+ *     width is 0, or above 4096           number 12
+ *     length is less than 2 * width       number 13
+ *     any other                           number 0: the window is open, session is { length, width, 0 }
+ *
+ * With 12 and 13 no word is written, and session is { 0, 0, 0 }, which is not open. In each case value and place are 0.
+ */
+filkotar_window_answer filkotar_window_open(uint64_t *area, uint64_t length, uint64_t width);
+
+/*
+ * Gives the window its next value, which may be any, INT32_MIN and INT32_MAX too. The first line that applies:
+ *
+ *     s.words is 0                        number 4: the window is not open
+ *     length is not s.words               number 5
+ *     s.present is 4294967295             number 6: there are no more positions
+ *     any other                           number 0: the value is accepted
+ *
+ * With 4, 5 and 6 nothing has happened: session is s, no word is written, and value and place are 0.
+ *
+ * With 0, session is { s.words, s.width, s.present + 1 }. value is the least of the last s.width values that were accepted, this one among them, or of
+ * all where there are fewer; and place is its position, the latest where it stands at several.
+ *
+ * The call is as safe with a session that no call returned, or with words that hold something else than the last call left. It stays within the `length`
+ * words, returns, and gives the number and the session above; value and place may then be any.
+ */
+filkotar_window_answer filkotar_window_value(filkotar_window s, uint64_t *area, uint64_t length, int32_t v);
 
 #ifdef __cplusplus
 }
