@@ -29,14 +29,20 @@ fn open(area: &mut [u64], width: usize) -> Window {
     answer.session
 }
 
-// An opening of the first n words of an area that is filled before it, with how many words from an index on it changed.
-fn opening(area: &mut [u64; 8193], n: usize, width: usize, from: usize) {
-    compare::fill(area);
-    if n <= 8193 {
-        let s = open(&mut area[0..n], width);
-        session(s);
-        lent::print_changed(area, from);
+// An opening of the first n words, or of all where there are fewer.
+fn open_first(area: &mut [u64], n: usize, width: usize) -> Window {
+    if area.len() < n {
+        return open(area, width);
     }
+    open(&mut area[0..n], width)
+}
+
+// An opening of the first n words of an area that is filled before it, with how many words from an index on it changed.
+fn opening(area: &mut [u64], n: usize, width: usize, from: usize) {
+    compare::fill(area);
+    let s = open_first(area, n, width);
+    session(s);
+    lent::print_changed(area, from);
 }
 
 // "12 at the window's opening for W outside 1 to 4,096; then 13 there for fewer than 2 × W words; both write nothing"
@@ -59,27 +65,32 @@ fn openings() {
     opening(&mut area, 8193, 4096, 8192);
 }
 
-// A value lent the first n words, with its reply.
-fn value(s: Window, area: &mut [u64; 577], n: usize, v: i32) -> Window {
-    if n <= 577 {
-        print::text(b"lent ");
-        print::number(n as u64);
-        print::text(b" V ");
-        print::signed(v);
-        print::text(b": ");
-        let answer = window::value(s, &mut area[0..n], v);
-        let reply = answer.reply;
-        print::reply(reply);
-        print::text(b"; ");
-        return answer.session;
+// A value lent the whole area, with its reply.
+fn value(s: Window, area: &mut [u64], v: i32) -> Window {
+    print::text(b"lent ");
+    print::number(area.len() as u64);
+    print::text(b" V ");
+    print::signed(v);
+    print::text(b": ");
+    let answer = window::value(s, area, v);
+    let reply = answer.reply;
+    print::reply(reply);
+    print::text(b"; ");
+    answer.session
+}
+
+// A value lent the first n words, or all where there are fewer.
+fn value_first(s: Window, area: &mut [u64], n: usize, v: i32) -> Window {
+    if area.len() < n {
+        return value(s, area, v);
     }
-    s
+    value(s, &mut area[0..n], v)
 }
 
 // A value that is refused: its reply, how many words of the area it changed, and the session after it.
 fn refused(s: Window, area: &mut [u64; 577], n: usize, v: i32) -> Window {
     let before = *area;
-    let after = value(s, area, n, v);
+    let after = value_first(s, area, n, v);
     print::number(compare::differing(&before, area) as u64);
     print::text(b" words changed; ");
     after
@@ -87,22 +98,22 @@ fn refused(s: Window, area: &mut [u64; 577], n: usize, v: i32) -> Window {
 
 // 5: any other length than the opening's, and the next value is told as if nothing had been.
 fn other_lengths(area: &mut [u64; 577]) {
-    let s = open(&mut area[0..4], 2);
-    let s = value(s, area, 4, 3);
+    let s = open_first(area, 4, 2);
+    let s = value_first(s, area, 4, 3);
     let s = refused(s, area, 5, -9);
     let s = refused(s, area, 3, -9);
-    let s = value(s, area, 4, 1);
+    let s = value_first(s, area, 4, 1);
     let s = refused(s, area, 0, -9);
     let s = refused(s, area, 577, -9);
-    let s = value(s, area, 4, 2);
-    let s = value(s, area, 4, 2);
+    let s = value_first(s, area, 4, 2);
+    let s = value_first(s, area, 4, 2);
     session(s);
     lent::print_changed(area, 4);
 }
 
 // 4: after an opening that was refused, whatever is lent.
 fn unopened(area: &mut [u64; 577]) {
-    let s = open(&mut area[0..5], 3);
+    let s = open_first(area, 5, 3);
     let s = refused(s, area, 5, 1);
     let s = refused(s, area, 6, 2);
     let s = refused(s, area, 0, 3);
@@ -112,13 +123,13 @@ fn unopened(area: &mut [u64; 577]) {
 
 // 6: at the last position, in a session made by hand, since no run here is as long. The one before it is accepted, and W = 1 tells the value just given.
 fn last_positions(area: &mut [u64; 577]) {
-    let opened = open(&mut area[0..2], 1);
+    let opened = open_first(area, 2, 1);
     let s = Window {
         words: opened.words,
         width: opened.width,
         present: Position(4294967294),
     };
-    let s = value(s, area, 2, -2147483648);
+    let s = value_first(s, area, 2, -2147483648);
     let s = refused(s, area, 2, 1);
     let s = refused(s, area, 3, 1);
     session(s);
