@@ -1,5 +1,4 @@
 pub mod Packing
 pub mod Suffixes
-pub mod Slots
 pub mod Searching
 pub mod Arriving

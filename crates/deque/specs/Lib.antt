@@ -1,3 +1,3 @@
 pub mod Suffixes
-pub mod Ring
+pub mod Words
 pub mod Calls

@@ -1,15 +1,16 @@
-// The suffix minima of a stream's last values, in lent words: a monotone deque, kept as a ring. An entry comes behind those that it does not take over from; the oldest leaves at the
-// front. Word 0 has the front's slot and the number of entries; the slots come behind it, a word each.
+// The suffix minima of a stream's last values, in lent words: a monotone deque. An entry comes behind those that it does not take over from; the oldest leaves at the front. Word 0 has the
+// front's slot and the number of entries, which stand one behind the other from word 1 + front on. Where they pass the last of the slots, each stands once more as many words lower, so that
+// a front that has moved over all of them starts anew at the first.
 ghost use mathlib.Core.Path.{_≡_};
-ghost use Prim.Native.Nat.{_<_, _≤_};
+ghost use Prim.Native.Nat.{_+_, _*_, _<_, _≤_};
 ghost use lib.ListN.{length};
 ghost use Rattle.history.specs.Minima.{takesOver};
-ghost use Rattle.deque.specs.Ring.{packed, valueIn, unpacked, slotOf, Headed};
-ghost use Rattle.deque.specs.Calls.{Cleared, Boundary, Left, Arrived};
+ghost use Rattle.deque.specs.Words.{packed, valueIn, unpacked};
+ghost use Rattle.deque.specs.Calls.{Cleared, Boundary, Left, Alone, Repeated, Put, Given, Arrived};
 use history::Minimum;
 use history::Position;
 
-// The most slots that a ring has.
+// The most slots that a deque has.
 pub const MOST_SLOTS: usize = 4096;
 
 // How many entries are tried one by one, before the search goes on by halves.
@@ -21,7 +22,7 @@ struct Header {
     count: usize,
 }
 
-// An entry as a word. The value stands above the position, so that the words of larger values are larger.
+// An entry as a word: the value above the position.
 fn pack(m: Minimum) -> u64
     ensures { λ r. ⌜ r ≡ packed m ⌝ }
 {
@@ -39,39 +40,11 @@ fn unpack(w: u64) -> Minimum
     }
 }
 
-// Whether a later value takes over from an entry: the choice among equal values, and the one comparison of values.
+// Whether a later value takes over from an entry: the choice among equal values, and the one comparison of values. Their words are ordered as they are.
 fn takes_over(later: i32, entry: u64) -> bool
     ensures { λ r. ⌜ r ≡ takesOver later (valueIn entry) ⌝ }
 {
-    signed::to_word(later) * 4294967296 <= entry
-}
-
-// The slot of the entry that is k behind the front. After the last slot comes the first.
-fn slot(slots: usize, front: usize, k: usize) -> usize
-    requires { ⌜ (slots ≤ 4096) × (front < slots) × (k ≤ slots) ⌝ }
-    ensures { λ r. ⌜ (r ≡ slotOf slots front k) × (r < slots) ⌝ }
-{
-    let at = front + k;
-    if at < slots {
-        return at;
-    }
-    at - slots
-}
-
-// The header of any words: where they cannot be a deque's, that of no entries, so that its bounds hold of every content.
-fn read_header(area: &[u64], slots: usize) -> Header
-    requires { ⌜ (0 < slots) × (slots < length (now area)) ⌝ }
-    ensures { λ r. ⌜ Headed (now (area .entry)) slots r ⌝ }
-{
-    let front = (area[0] / 65536) as usize;
-    let count = (area[0] % 65536) as usize;
-    if slots <= front {
-        return Header { front: 0, count: 0 };
-    }
-    if slots < count {
-        return Header { front: 0, count: 0 };
-    }
-    Header { front, count }
+    signed::to_word(later) <= entry / 4294967296
 }
 
 // No entries.
@@ -84,15 +57,15 @@ pub fn clear(area: &mut [u64])
 }
 
 // The first of n entries that a value takes over, or n where it takes over none: a search by halves.
-fn halved(area: &[u64], slots: usize, front: usize, n: usize, v: i32) -> usize
-    requires { ⌜ (slots ≤ 4096) × (slots < length (now area)) × (front < slots) × (n ≤ slots) ⌝ }
-    ensures { λ r. ⌜ Boundary (now (area .entry)) slots front n v r ⌝ }
+fn halved(area: &[u64], front: usize, n: usize, v: i32) -> usize
+    requires { ⌜ (front < 4096) × (n < 4096) × (front + n < length (now area)) ⌝ }
+    ensures { λ r. ⌜ Boundary (now (area .entry)) front n v r ⌝ }
 {
     let mut low = 0;
     let mut high = n;
     while low < high {
         let middle = (low + high) / 2;
-        if takes_over(v, area[1 + slot(slots, front, middle)]) {
+        if takes_over(v, area[1 + front + middle]) {
             high = middle;
         } else {
             low = middle + 1;
@@ -102,47 +75,109 @@ fn halved(area: &[u64], slots: usize, front: usize, n: usize, v: i32) -> usize
 }
 
 // The same, where mostly few are taken over: the last ones are tried one by one, and the search goes by halves where a value takes over all of these.
-fn taken_over(area: &[u64], slots: usize, front: usize, n: usize, v: i32) -> usize
-    requires { ⌜ (slots ≤ 4096) × (slots < length (now area)) × (front < slots) × (n ≤ slots) ⌝ }
-    ensures { λ r. ⌜ Boundary (now (area .entry)) slots front n v r ⌝ }
+fn taken_over(area: &[u64], front: usize, n: usize, v: i32) -> usize
+    requires { ⌜ (front < 4096) × (n < 4096) × (front + n < length (now area)) ⌝ }
+    ensures { λ r. ⌜ Boundary (now (area .entry)) front n v r ⌝ }
 {
     let mut k = n;
-    let mut far = 0;
-    if NEAR < n {
-        far = n - NEAR;
-    }
-    while far < k {
-        if takes_over(v, area[1 + slot(slots, front, k - 1)]) {
+    let mut near = NEAR;
+    while 0 < near {
+        if k == 0 {
+            return k;
+        }
+        if takes_over(v, area[1 + front + (k - 1)]) {
             k -= 1;
+            near -= 1;
         } else {
             return k;
         }
     }
-    halved(area, slots, front, k, v)
+    halved(area, front, k, v)
 }
 
-// The front entry leaves where it stands before the oldest position.
-fn leave(area: &[u64], slots: usize, head: Header, oldest: Position) -> Header
-    requires { ⌜ (slots ≤ 4096) × (slots < length (now area)) × (head .front < slots) × (head .count ≤ slots) ⌝ }
-    ensures { λ r. ⌜ Left (now (area .entry)) slots head oldest r ⌝ }
+// The front entry leaves where as many positions as there are slots have come since.
+fn leave(area: &[u64], slots: usize, head: Header, place: Position) -> Header
+    requires { ⌜ (slots ≤ 4096) × (slots < length (now area)) × (head .front < slots) × (0 < head .count) ⌝ }
+    ensures { λ r. ⌜ Left (now (area .entry)) slots head place r ⌝ }
 {
     let front = head.front;
     let count = head.count;
-    if count == 0 {
+    if (place.0 as u64) < area[1 + front] % 4294967296 + slots as u64 {
         return head;
     }
-    if (area[1 + front] % 4294967296) as u32 >= oldest.0 {
-        return head;
+    if front + 1 < slots {
+        return Header {
+            front: front + 1,
+            count: count - 1,
+        };
     }
     Header {
-        front: slot(slots, front, 1),
+        front: 0,
         count: count - 1,
     }
 }
 
-// A value comes, and those before the oldest position leave. What is returned is the front entry then.
-pub fn arrive(area: &mut [u64], slots: usize, oldest: Position, m: Minimum) -> Minimum
-    ensures { λ r. ⌜ Arrived (now (area .entry)) (now (area .exit)) slots oldest m r ⌝ }
+// An entry that is the only one.
+fn alone(area: &mut [u64], word: u64) -> u64
+    requires { ⌜ 1 < length (now area) ⌝ }
+    ensures { λ r. ⌜ Alone (now (area .entry)) (now (area .exit)) word r ⌝ }
+{
+    area[1] = word;
+    area[0] = 1;
+    word
+}
+
+// A word beyond the slots stands once more, as many words lower.
+fn repeat(area: &mut [u64], slots: usize, at: usize, word: u64)
+    requires { ⌜ at < length (now area) ⌝ }
+    ensures { λ r. ⌜ Repeated (now (area .entry)) (now (area .exit)) slots at word ⌝ }
+{
+    if slots < at {
+        area[at - slots] = word;
+    }
+}
+
+// An entry comes behind those that it does not take over from. What is returned is the front entry then.
+fn put(area: &mut [u64], slots: usize, head: Header, v: i32, word: u64) -> u64
+    requires { ⌜ (slots ≤ 4096) × (2 * slots ≤ length (now area)) × (head .front < slots) × (head .count < slots) ⌝ }
+    ensures { λ r. ⌜ Put (now (area .entry)) (now (area .exit)) slots head v word r ⌝ }
+{
+    let front = head.front;
+    let k = taken_over(area, front, head.count, v);
+    let at = 1 + front + k;
+    area[at] = word;
+    repeat(area, slots, at, word);
+    area[0] = (front * 65536 + k + 1) as u64;
+    area[1 + front]
+}
+
+// An entry comes, of a value and its position, and those leave that are as many positions older as there are slots. A header that cannot be the deque's counts as that of no entries.
+fn give(area: &mut [u64], slots: usize, v: i32, place: Position, word: u64) -> u64
+    requires { ⌜ (0 < slots) × (slots ≤ 4096) × (2 * slots ≤ length (now area)) ⌝ }
+    ensures { λ r. ⌜ Given (now (area .entry)) (now (area .exit)) slots v place word r ⌝ }
+{
+    let front = (area[0] / 65536) as usize;
+    let count = (area[0] % 65536) as usize;
+    if slots <= front {
+        return alone(area, word);
+    }
+    if count == 0 {
+        return alone(area, word);
+    }
+    let head = leave(area, slots, Header { front, count }, place);
+    let n = head.count;
+    if n == 0 {
+        return alone(area, word);
+    }
+    if slots <= n {
+        return alone(area, word);
+    }
+    put(area, slots, head, v, word)
+}
+
+// A value comes at the next position, and the one that is as many positions older as there are slots leaves. What is returned is the least of those that are left.
+pub fn arrive(area: &mut [u64], slots: usize, m: Minimum) -> Minimum
+    ensures { λ r. ⌜ Arrived (now (area .entry)) (now (area .exit)) slots m r ⌝ }
 {
     if slots == 0 {
         return m;
@@ -150,13 +185,9 @@ pub fn arrive(area: &mut [u64], slots: usize, oldest: Position, m: Minimum) -> M
     if MOST_SLOTS < slots {
         return m;
     }
-    if area.len() <= slots {
+    if area.len() < 2 * slots {
         return m;
     }
-    let head = leave(area, slots, read_header(area, slots), oldest);
-    let front = head.front;
-    let k = taken_over(area, slots, front, head.count, m.value);
-    area[1 + slot(slots, front, k)] = pack(m);
-    area[0] = (front * 65536 + k + 1) as u64;
-    unpack(area[1 + front])
+    let place = m.place;
+    unpack(give(area, slots, m.value, place, pack(m)))
 }

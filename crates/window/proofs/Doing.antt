@@ -1,12 +1,11 @@
 -- When the answers of an opening and of a value meet their contracts, by the way out.
-use mathlib.Core.Path.{_≡_, refl, sym, ap, _∙_}
+use mathlib.Core.Path.{_≡_, refl, sym, ap, _∙_, subst}
 use mathlib.Core.List.{List, [], _∷_, _++_}
-use mathlib.Core.Logic.{_⊎_, inl, inr, ⊎-elim}
+use mathlib.Core.Logic.{_⊎_, ⊎-elim}
 use Prim.Native.Nat.{ℕ, _*_, _<_, _≤_}
-use native.Mathlib.Nat.{eq-zero-or-pos}
 use native.Mathlib.Omega.{arith}
 use lib.IntN.{ℤ}
-use lib.ListN.{length, getD, length-append}
+use lib.ListN.{length, length-append}
 use Rattle.history.specs.declared.Position.{Position}
 use Rattle.history.specs.declared.Minimum.{Minimum}
 use Rattle.history.specs.declared.Refusal.{Refusal}
@@ -16,7 +15,7 @@ use Rattle.history.specs.Minima.{standsAt, next, presentAt, minimum}
 use Rattle.history.specs.Replies.{numbered, numberOf, valueRefusal, lentRefusal}
 use Rattle.history.proofs.Steps.{some-number, lent-unopened, lent-other, lent-own, last-due, earlier-free}
 use Rattle.runs.specs.Runs.{AsLent}
-use Rattle.deque.specs.Ring.{Holds}
+use Rattle.deque.specs.Words.{Holds}
 use Rattle.deque.specs.Calls.{Cleared, Arrived}
 use Rattle.window.specs.declared.Window.{Window}
 use Rattle.window.specs.Windows.{Paper, sessionOf, openingRefusal, blank, oldest, refusalOf, accept, step}
@@ -24,7 +23,7 @@ use Rattle.window.specs.Promises.{windowOf, AnyOpening, AnyValue}
 use Rattle.window.specs.Keeping.{Sound, Keeps, Represents}
 use Rattle.window.specs.Contracts.{Opens, Does}
 use Rattle.window.specs.Private.{refusedWith}
-use Rattle.window.proofs.Inside.{newest-inside, as-wide, moves-on, first-oldest}
+use Rattle.window.proofs.Inside.{newest-inside, as-wide, as-many, moves-on, first-oldest}
 use Rattle.window.proofs.Steps.{width-zero, width-large, words-few, words-enough, opening-refused, opening-accepted, refused, step-refused, step-accepted}
 
 -- AN OPENING THAT IS REFUSED: nothing is written, and the session is unopened
@@ -98,18 +97,21 @@ one-more : (values : List ℤ) (v : ℤ) → next (presentAt values) ≡ present
 one-more values v = ap (λ (n : ℕ). record { 0 = n }) (sym (length-append values (v ∷ [])))
 
 -- the words that held a paper's window hold it with one value more, and what the deque returns is its least
-arrives-at : (p : Paper) {v : ℤ} {w after : List ℕ} {first : Position} {m : Minimum} → 1 ≤ p .width → first ≡ oldest (next (presentAt (p .values))) (p .width)
-    → Arrived w after (p .width) first (standsAt v (next (presentAt (p .values)))) m → Holds w (p .width) (p .values) (oldest (presentAt (p .values)) (p .width))
+arrives-at : (p : Paper) {v : ℤ} {w after : List ℕ} {m : Minimum} → 1 ≤ p .width → Arrived w after (p .width) (standsAt v (next (presentAt (p .values)))) m
+    → Holds w (p .width) (p .values) (oldest (presentAt (p .values)) (p .width))
     → let more : List ℤ = p .values ++ (v ∷ []) in let i : Position = oldest (presentAt more) (p .width) in Holds after (p .width) more i × (m ≡ minimum more i)
-arrives-at p {v} {first = first} some f q k =
+arrives-at p {v} {after = after} {m} some q k =
     let here : Position = presentAt (p .values) in
-    let old : Position = oldest here (p .width) in
-    let g : first ≡ oldest (presentAt (p .values ++ (v ∷ []))) (p .width) = f ∙ ap (λ (x : Position). oldest x (p .width)) (one-more (p .values) v) in
-    let n : first .0 ≡ oldest (next here) (p .width) .0 = ap (λ (x : Position). x .0) f in
-    rw g at
-    (q .arrives (p .values) old k refl
-    (⊎-elim (λ (e : oldest (next here) (p .width) ≡ old). inl (f ∙ e)) (λ (e : oldest (next here) (p .width) ≡ next old). inr (f ∙ e)) (moves-on here (p .width) some))
-    (omega (arith, newest-inside here (p .width) some)) (omega (arith, as-wide here (p .width) some)))
+    let more : List ℤ = p .values ++ (v ∷ []) in
+    subst (λ (x : Position). Holds after (p .width) more (oldest x (p .width)) × (m ≡ minimum more (oldest x (p .width)))) (one-more (p .values) v)
+    (q .arrives (p .values) (oldest here (p .width)) (oldest (next here) (p .width)) k
+    (record {
+      at = refl;
+      moves = moves-on here (p .width) some;
+      before = newest-inside here (p .width) some;
+      wide = as-wide here (p .width) some;
+      tight = as-many here (p .width) some;
+    }))
 
 -- the first refusal that applies to a value, by the session
 abbrev dueOf : Window → ℕ → ℕ
@@ -167,14 +169,7 @@ module _ (s : Window) (v : ℤ) (w : List ℕ) where
       })
 
       -- A VALUE THAT IS ACCEPTED: the least is what the deque returned
-      module _ (n : s .present .0 ≡ 4294967295 → ⊥) {after : List ℕ} {first : Position} {m : Minimum} (f : first ≡ oldest (next (s .present)) (s .width))
-          (q : Arrived w after (s .width) first (standsAt v (next (s .present))) m) where
-        rest : (i : ℕ) → 2 * s .width ≤ i → getD after i 0 ≡ getD w i 0
-        rest i l = elim (eq-zero-or-pos (s .width)) [
-          | inl e ↦ ap (λ (x : List ℕ). getD x i 0) (q .idle e)
-          | inr e ↦ q .kept i (omega arith)
-        ]
-
+      module _ (n : s .present .0 ≡ 4294967295 → ⊥) {after : List ℕ} {m : Minimum} (q : Arrived w after (s .width) (standsAt v (next (s .present))) m) where
         none : dueOf s (length w) ≡ 0
         none = own-due ∙ earlier-free (s .present) n
 
@@ -194,8 +189,8 @@ module _ (s : Window) (v : ℤ) (w : List ℕ) where
         held p g y r =
             let e = ap (λ (x : Window). x .words) (r .session) in
             let k = r .own (λ x. z (e ∙ x)) (o ∙ e) in
-            let a = arrives-at p (y .some (λ x. z (e ∙ x))) (rw (r .session) at f) (rw (r .session) at q) (k .holds) in
-            (record { holds = a .0; rest = λ i l. rest i (rw (r .session) l) ∙ k .rest i l }, a .1)
+            let a = arrives-at p (y .some (λ x. z (e ∙ x))) (rw (r .session) at q) (k .holds) in
+            (record { holds = a .0; rest = λ i l. q .kept i (rw (r .session) l) ∙ k .rest i l }, a .1)
 
         pub does-accepted : Does s v w after (record { reply = Lowest m; session = later })
         does-accepted = record {
@@ -204,7 +199,7 @@ module _ (s : Window) (v : ℤ) (w : List ℕ) where
             otherLength = λ a b. absurd (b o);
             lastPosition = λ a b c. absurd (n c);
             accepts = λ a b c. (m, refl, refl);
-            rest = rest;
+            rest = q .kept;
             long = q .long;
           };
           tells = λ p g y r. rw (there p g y r, held p g y r .1);

@@ -21,6 +21,10 @@ module _ (p : Position) (width : ℕ) (w : 1 ≤ width) where
   pub as-wide : next p .0 < oldest (next p) width .0 + width
   as-wide = omega arith
 
+  -- and just as many, where any has left
+  pub as-many : (oldest (next p) width .0 ≡ 1) ⊎ (oldest (next p) width .0 + width ≡ next p .0 + 1)
+  as-many = ⊎-elim (λ (l : p .0 < width). inl (omega arith)) (λ (l : width ≤ p .0). inr (omega arith)) (lt-or-ge (p .0) width)
+
   -- with a value more the oldest position stays, or is the next one
   pub moves-on : (oldest (next p) width ≡ oldest p width) ⊎ (oldest (next p) width ≡ next (oldest p width))
   moves-on =

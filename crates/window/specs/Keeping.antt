@@ -5,7 +5,7 @@ use Prim.Native.Nat.{ℕ, _*_, _≤_}
 use lib.ListN.{length}
 use Rattle.history.specs.Minima.{presentAt}
 use Rattle.runs.specs.Runs.{AsLent}
-use Rattle.deque.specs.Ring.{Holds}
+use Rattle.deque.specs.Words.{Holds}
 use Rattle.window.specs.declared.Window.{Window}
 use Rattle.window.specs.Windows.{Paper, sessionOf, oldest, model}
 

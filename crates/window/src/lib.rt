@@ -46,20 +46,6 @@ fn unopened(why: Refusal) -> Answer
     )
 }
 
-// The oldest position whose value has not left, once the present one's has come.
-fn oldest(present: Position, width: usize) -> Position
-    ensures { λ r. ⌜ r ≡ Windows.oldest present width ⌝ }
-{
-    let p = present.0 as usize;
-    if p <= width {
-        return Position(1);
-    }
-    if width == 0 {
-        return present;
-    }
-    Position((p - (width - 1)) as u32)
-}
-
 // A window of the last `width` values is opened, whatever the words hold.
 pub fn open(area: &mut [u64], width: usize) -> Answer
     ensures { λ r. ⌜ Opens width (now (area .entry)) (now (area .exit)) r ⌝ }
@@ -105,7 +91,6 @@ pub fn value(s: Window, area: &mut [u64], v: i32) -> Answer
     let least = deque::arrive(
         area,
         width,
-        oldest(next, width),
         Minimum {
             value: v,
             place: next,

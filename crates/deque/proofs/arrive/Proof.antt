@@ -1,87 +1,53 @@
--- `deque::arrive` meets its contract. Words that have no room are left as they are; in others what its two stores leave is one law.
+-- `deque::arrive` meets its contract. Words that have no room are left as they are; in others the value's word is given, and the front entry's read.
 use native.Mathlib.Omega.{arith}
-use lib.ListN.{length-set}
-use borrow.Author.Needs.{needs}
+use mir.Syntax.{w32}
+use mir.Val.{SFits}
 use mir.Facts.{toZ-ofZ}
-use Rattle.deque.proofs.Arriving.{arrived-as, unarrived}
+use mathlib.Core.Path.{ap, _∙_}
+use Rattle.history.specs.declared.Minimum.{Minimum}
+use Rattle.deque.specs.Words.{unpacked}
+use Rattle.deque.proofs.Packing.{read-back}
+use Rattle.deque.proofs.Arriving.{arrived, unarrived}
+use borrow.Author.Needs.{needs}
 use Rattle.deque.proofs.arrive.Statement.{statement}
 use Rattle.deque.proofs.arrive.Tie as tie
 
+-- the value that comes is one of 32 bits
+abbrev value-args : tie.After-struct-told → Minimum
+value-args c = c .before .before .before .before .before .before .before .before .args .m
+
+fits : (c : tie.After-struct-told) → SFits w32 (value-args c .value)
+fits c = record { sfits = c .struct-told .given .0 .1 }
+
 returns : tie.Need-returns
-returns c = unarrived _ _ _ _ (λ r. omega (arith, r .some))
+returns c = unarrived _ _ _ (λ r. omega (arith, r .some))
 
 returns-2 : tie.Need-returns-2
-returns-2 c = unarrived _ _ _ _ (λ r. omega (arith, r .few))
+returns-2 c = unarrived _ _ _ (λ r. omega (arith, r .few))
+
+mul-if3 : tie.Need-mul-if3
+mul-if3 c = search needs
 
 returns-3 : tie.Need-returns-3
-returns-3 c = unarrived _ _ _ _ (λ r. omega (arith, r .wide))
-
-read-header-requires : tie.Need-read-header-requires
-read-header-requires c κs = search needs
-
-leave-requires : tie.Need-leave-requires
-leave-requires c κs = (omega arith, omega arith, c .read-header .ensures .slot, c .read-header .ensures .few)
-
-taken-over-requires : tie.Need-taken-over-requires
-taken-over-requires c κs =
-    let left = c .before .before .leave .ensures in
-    (omega arith, omega arith, left .slot, left .few)
+returns-3 c = unarrived _ _ _ (λ r. omega (arith, r .wide))
 
 pack-requires : tie.Need-pack-requires
 pack-requires c κs = search needs
 
-slot-requires : tie.Need-slot-requires
-slot-requires c κs =
-    let left = c .before .before .before .before .leave .ensures in
-    (omega arith, left .slot, omega (arith, left .few, c .before .taken-over .ensures .within))
-
-add-area : tie.Need-add-area
-add-area c = search needs
-
-mul-area : tie.Need-mul-area
-mul-area c = search needs
-
-slice-write-area : tie.Need-slice-write-area
-slice-write-area c = search needs
-
-mul-area-2 : tie.Need-mul-area-2
-mul-area-2 c = omega (arith, c .before .before .before .before .before .leave .ensures .slot)
-
-add-area-2 : tie.Need-add-area-2
-add-area-2 c =
-    let left = c .before .before .before .before .before .leave .ensures in
-    omega (arith, left .slot, left .few, c .before .before .taken-over .ensures .within)
-
-add-area-3 : tie.Need-add-area-3
-add-area-3 c =
-    let left = c .before .before .before .before .before .leave .ensures in
-    omega (arith, left .slot, left .few, c .before .before .taken-over .ensures .within)
-
-slice-write-area-2 : tie.Need-slice-write-area-2
-slice-write-area-2 c = simp length-set (omega arith)
-
-add-unpack : tie.Need-add-unpack
-add-unpack c = omega (arith, c .before .before .before .before .before .leave .ensures .slot)
-
-mul-unpack : tie.Need-mul-unpack
-mul-unpack c = omega (arith, c .before .before .before .before .before .leave .ensures .slot)
-
-slice-read-unpack : tie.Need-slice-read-unpack
-slice-read-unpack c = simp length-set (omega (arith, c .before .before .before .before .before .before .leave .ensures .slot))
+give-requires : tie.Need-give-requires
+give-requires c κs = search needs
 
 unpack-requires : tie.Need-unpack-requires
 unpack-requires c κs = search needs
 
 same-length : tie.Need-same-length
-same-length c = simp length-set
+same-length c = search needs
 
 returns-4 : tie.Need-returns-4
 returns-4 c =
-    let s = c .before .before in
-    let t = s .before .before .before in
-    arrived-as _ _ _ _ (record { sfits = t .struct-told .given .0 .1 }) (omega arith) _ _ (t .before .before .before .read-header .ensures) (t .before .before .leave .ensures) _
-    (rw (toZ-ofZ (record { sfits = t .struct-told .given .0 .1 })) at (s .before .before .taken-over .ensures))
-    (omega arith) (omega arith) (omega arith) (s .slot .ensures .0) (s .before .pack .ensures) (c .unpack .ensures)
+    let t = c .before .before .before .before in
+    arrived (ap unpacked (t .before .pack .ensures) ∙ read-back (value-args t) (fits t) (omega arith)) (c .unpack .ensures)
+    (rw (toZ-ofZ {z = value-args t .value} (fits t)) at (c .before .before .before .give .ensures))
 
 pub arrive-spec : {M : Type 1} → statement M
 arrive-spec =
@@ -89,22 +55,10 @@ arrive-spec =
     (tie.spec
     returns
     returns-2
+    mul-if3
     returns-3
-    read-header-requires
-    leave-requires
-    taken-over-requires
     pack-requires
-    slot-requires
-    add-area
-    mul-area
-    slice-write-area
-    mul-area-2
-    add-area-2
-    add-area-3
-    slice-write-area-2
-    add-unpack
-    mul-unpack
-    slice-read-unpack
+    give-requires
     unpack-requires
     same-length
     returns-4)

@@ -1,53 +1,60 @@
--- `deque::leave` meets its contract: with no entry there is none to leave, and else the front's position decides.
+-- `deque::leave` meets its contract: the front's position decides whether it leaves, and the front is then the next slot or the first.
 use mathlib.Core.Path.{refl}
+use mathlib.Core.Logic.{inl, inr}
 use native.Mathlib.Omega.{arith}
 use borrow.Author.Needs.{needs}
 use Rattle.deque.proofs.leave.Statement.{statement}
 use Rattle.deque.proofs.leave.Tie as tie
 
+cast-if1 : tie.Need-cast-if1
+cast-if1 c = search needs
+
+add-if1 : tie.Need-add-if1
+add-if1 c = search needs
+
+mul-if1 : tie.Need-mul-if1
+mul-if1 c = search needs
+
+shared-slice-read-if1 : tie.Need-shared-slice-read-if1
+shared-slice-read-if1 c = search needs
+
+add-if1-2 : tie.Need-add-if1-2
+add-if1-2 c = search needs
+
 returns : tie.Need-returns
-returns c = record { slot = omega arith; few = omega arith; none = λ z. refl; stays = λ l. refl; leaves = λ z l. absurd (omega arith) }
+returns c = record { slot = omega arith; stays = λ l. refl; leaves = λ l. absurd (omega arith) }
 
 add-if2 : tie.Need-add-if2
 add-if2 c = search needs
 
-mul-if2 : tie.Need-mul-if2
-mul-if2 c = search needs
+add-t16 : tie.Need-add-t16
+add-t16 c = search needs
 
-shared-slice-read-if2 : tie.Need-shared-slice-read-if2
-shared-slice-read-if2 c = search needs
-
-cast-if2 : tie.Need-cast-if2
-cast-if2 c = search needs
+sub-t17 : tie.Need-sub-t17
+sub-t17 c = search needs
 
 returns-2 : tie.Need-returns-2
-returns-2 c = record { slot = omega arith; few = omega arith; none = λ z. refl; stays = λ l. refl; leaves = λ z l. absurd (omega arith) }
-
-slot-requires : tie.Need-slot-requires
-slot-requires c κs = search needs
+returns-2 c = record { slot = omega arith; stays = λ l. absurd (omega arith); leaves = λ l. (omega arith, inl refl) }
 
 sub-t9 : tie.Need-sub-t9
 sub-t9 c = search needs
 
 returns-3 : tie.Need-returns-3
-returns-3 c = record {
-  slot = omega arith;
-  few = omega arith;
-  none = λ z. absurd (omega arith);
-  stays = λ l. absurd (omega arith);
-  leaves = λ z l. (c .slot .ensures .0, omega arith);
-}
+returns-3 c = record { slot = omega arith; stays = λ l. absurd (omega arith); leaves = λ l. (omega arith, inr (refl, omega arith)) }
 
 pub leave-spec : {M : Type 1} → statement M
 leave-spec =
     tie.close
     (tie.spec
+    cast-if1
+    add-if1
+    mul-if1
+    shared-slice-read-if1
+    add-if1-2
     returns
     add-if2
-    mul-if2
-    shared-slice-read-if2
-    cast-if2
+    add-t16
+    sub-t17
     returns-2
-    slot-requires
     sub-t9
     returns-3)

@@ -27,9 +27,6 @@ returns-3 c = rw (c .refuse3 .ensures) (does-last _ _ _ (omega arith) (omega ari
 add-t14 : tie.Need-add-t14
 add-t14 c = search needs
 
-oldest-requires : tie.Need-oldest-requires
-oldest-requires c κs = search needs
-
 arrive-requires : tie.Need-arrive-requires
 arrive-requires c κs = search needs
 
@@ -39,8 +36,8 @@ same-length c = search needs
 returns-4 : tie.Need-returns-4
 returns-4 c =
     let a = c .before .before in
-    let v = toZ-ofZ (a .before .before .before .before .before .before .before .before .before .before .fits .v) in
-    does-accepted _ _ _ (omega arith) (omega arith) (omega arith) (a .before .oldest .ensures) (rw v at (a .arrive .ensures))
+    let v = toZ-ofZ (a .before .before .before .before .before .before .before .before .before .fits .v) in
+    does-accepted _ _ _ (omega arith) (omega arith) (omega arith) (rw v at (a .arrive .ensures))
 
 pub value-spec : {M : Type 1} → statement M
 value-spec =
@@ -53,7 +50,6 @@ value-spec =
     refuse-requires-3
     returns-3
     add-t14
-    oldest-requires
     arrive-requires
     same-length
     returns-4)
