@@ -1,0 +1,2 @@
+-- later
+use mathlib.Core.List.{List}
