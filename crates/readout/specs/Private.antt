@@ -33,5 +33,5 @@ pub record Follows (s : Window) (before bytes out : List ℕ) (used : ℕ) (writ
   pub made : InTurn model (Answered Does) s before calls
   pub reads : valuesOf bytes ≡ commandsOf model calls
   pub accepted : r .accepted ≡ acceptances (toldTo model calls)
-  pub prints : Adds out used (valueLines 1 (toldTo model calls)) written (r .used)
+  pub prints : Adds out used (valueLines 1 (commandsOf model calls) (toldTo model calls)) written (r .used)
   pub fits : r .used ≤ used + 540606

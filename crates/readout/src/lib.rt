@@ -6,7 +6,7 @@ ghost use Prim.Native.Nat.{_+_, _*_, _<_, _≤_, min};
 ghost use lib.ListN.{length, take};
 ghost use Rattle.io.specs.Counts.{Counts};
 ghost use Rattle.text.specs.Writing.{Adds};
-ghost use Rattle.readout.specs.Input.{numberAt, countOf, valuesOf, leftOf, endOf};
+ghost use Rattle.readout.specs.Input.{numberAt, countOf};
 ghost use Rattle.readout.specs.Output.{stopLines, printed, printedOf, outputOf};
 ghost use Rattle.readout.specs.Private.{Performs, Follows};
 use window::Window;
@@ -89,17 +89,18 @@ fn stop(out: &mut [u8], used: usize, left: usize, offset: usize) -> usize
     lines::stop(out, used, offset)
 }
 
-// A window of a width on the words lent, from its opening to its last line.
-fn run(bytes: &[u8], width: usize, area: &mut [u64], out: &mut [u8]) -> usize
+// A window on the words lent, from its opening to its last line.
+fn run(bytes: &[u8], area: &mut [u64], out: &mut [u8]) -> usize
     requires { ⌜ (8 ≤ length (now bytes)) × (length (now bytes) ≤ 65536) × (540710 ≤ length (now out)) ⌝ }
-    ensures { λ r. ⌜ let b = now (bytes .entry) in take r (now (out .exit)) ≡ printed (length (now (area .entry))) width (valuesOf b) (leftOf b) (endOf b) ⌝ }
-    ensures { λ r. ⌜ Counts r (now (out .exit)) ⌝ }
+    ensures { λ r. ⌜ (take r (now (out .exit)) ≡ printed (length (now (area .entry))) (now (bytes .entry))) × Counts r (now (out .exit)) ⌝ }
 {
-    let opened = window::open(area, width);
-    let start = lines::opening(out, 0, opened.reply);
+    let opened = window::open(area, number_at(bytes, 0) as usize);
+    let reply = opened.reply;
+    let session = opened.session;
+    let start = lines::opening(out, 0, reply);
     let behind = bytes.len() - 8;
     let count = behind / 4;
-    let progress = follow(bytes, count, area, opened.session, out, start);
+    let progress = follow(bytes, count, area, session, out, start);
     let stopped = stop(out, progress.used, behind % 4, 8 + 4 * count);
     lines::end(out, stopped, count, progress.accepted)
 }
@@ -112,10 +113,9 @@ fn play(bytes: &[u8], out: &mut [u8]) -> usize
     if bytes.len() < 8 {
         return lines::no_window(out, 0);
     }
-    let width = number_at(bytes, 0) as usize;
     let words = capped(number_at(bytes, 4));
     let mut area = [0u64; 8192];
-    run(bytes, width, &mut area[..words], out)
+    run(bytes, &mut area[..words], out)
 }
 
 // Writes all that is printed of an input, of which no more than the first 65,536 bytes are read, and returns how many bytes that is: a number of bytes at the start of `out`, which is what

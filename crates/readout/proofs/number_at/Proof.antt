@@ -1,33 +1,33 @@
+-- `readout::number_at` meets its contract: the part that is lent is the four bytes from the offset on.
 use borrow.Author.Needs.{needs}
+use mathlib.Core.Path.{_≡_, ap, _∙_}
+use Prim.Native.Nat.{ℕ, _+_, _-_}
+use native.Mathlib.Omega.{arith}
+use lib.ListN.{take, drop, length-take}
+use Rattle.endian.specs.Numbers.{littleEndian}
 use Rattle.readout.proofs.number_at.Statement.{statement}
 use Rattle.readout.proofs.number_at.Tie as tie
-use Rattle.readout.proofs.number_at.Reads as reads
-use Rattle.readout.proofs.number_at.Lts as lts
-use Rattle.endian.proofs.little_endian.Reads as little-endian-reads
 
--- src/lib.rt:26:38
 add-little-endian : tie.Need-add-little-endian
 add-little-endian c = search needs
 
--- src/lib.rt:26:27
 sub-little-endian : tie.Need-sub-little-endian
 sub-little-endian c = search needs
 
--- src/lib.rt:26:27
 part-little-endian-start : tie.Need-part-little-endian-start
 part-little-endian-start c = search needs
 
--- src/lib.rt:26:27
 part-little-endian-end : tie.Need-part-little-endian-end
 part-little-endian-end c = search needs
 
--- src/lib.rt:26:5
 little-endian-requires : tie.Need-little-endian-requires
-little-endian-requires c κs = search needs
+little-endian-requires c κs = simp length-take (omega arith)
 
--- src/lib.rt:22:1
 returns : tie.Need-returns
-returns c = ?
+returns c =
+    let s = c .before .before .before in
+    let four : s .args .at + 4 - s .args .at ≡ 4 = omega arith in
+    c .little-endian .ensures ∙ ap (λ (k : ℕ). littleEndian (take k (drop (s .args .at) (s .args .bytes .now)))) four
 
 pub number-at-spec : {M : Type 1} → statement M
 number-at-spec =

@@ -1,39 +1,52 @@
+-- `readout::perform` meets its contract. The call is `window::value`'s, of which its contract is known; what is added to the count is read off its reply.
 use borrow.Author.Needs.{needs}
+use mathlib.Core.Path.{refl, ap}
+use Prim.Native.Nat.{ℕ, _+_, _≤_}
+use native.Mathlib.Omega.{arith}
+use mir.Facts.{toZ-ofZ}
+use Rattle.history.specs.Replies.{told}
+use Rattle.history.proofs.Acceptances.{at-most-one}
 use Rattle.readout.proofs.perform.Statement.{statement}
 use Rattle.readout.proofs.perform.Tie as tie
-use Rattle.readout.proofs.perform.Reads as reads
-use Rattle.readout.proofs.perform.Lts as lts
-use Rattle.history.proofs.acceptances_of.Reads as acceptances-of-reads
-use Rattle.readout.proofs.lines.value.Reads as lines-value-reads
-use Rattle.window.proofs.value.Reads as value-reads
 
--- src/lib.rt:44:9
 value-requires : tie.Need-value-requires
 value-requires c κs = search needs
 
--- src/lib.rt:47:9
 value-requires-2 : tie.Need-value-requires-2
 value-requires-2 c κs = search needs
 
--- src/lib.rt:50:39
 acceptances-of-requires : tie.Need-acceptances-of-requires
 acceptances-of-requires c κs = search needs
 
--- src/lib.rt:50:19
-add-t15 : tie.Need-add-t15
-add-t15 c = search needs
+-- one value is accepted at most once
+one : (c : tie.After-acceptances-of) → c .acceptances-of .result ≤ 1
+one c = rw (c .acceptances-of .ensures) (at-most-one (told (c .before .before .before .before .before .before .before .before .value .result .reply)))
 
--- src/lib.rt:40:1
+add-t15 : tie.Need-add-t15
+add-t15 c =
+    let a = c .before .before .before .before .before .before .before .before .before in
+    record { fits = omega (arith, a .before .before .before .before .pre, one (c .before)) }
+
 same-length : tie.Need-same-length
 same-length c = search needs
 
--- src/lib.rt:40:1
 same-length-2 : tie.Need-same-length-2
 same-length-2 c = search needs
 
--- src/lib.rt:40:1
 returns : tie.Need-returns
-returns c = ?
+returns c =
+    let w = c .before .before .before .before in
+    let a = w .before .before .before .before .before in
+    let s = a .before .before .before .before in
+    let d = a .value in
+    record {
+      told = told (d .result .reply);
+      done = (d .result, simp (toZ-ofZ, s .fits .v) at (d .ensures), refl, refl);
+      accepted = ap (λ (n : ℕ). s .args .progress .accepted + n) (c .before .acceptances-of .ensures);
+      few = omega (arith, one (c .before));
+      prints = w .value2 .ensures .0;
+      fits = w .value2 .ensures .1;
+    }
 
 pub perform-spec : {M : Type 1} → statement M
 perform-spec =

@@ -1,38 +1,41 @@
+-- `readout::lines::opening` meets its contract: the texts that are put one after the other are those of the line.
 use borrow.Author.Needs.{needs}
+use native.Mathlib.Omega.{arith}
+use Rattle.text.proofs.Texts.{then}
 use Rattle.readout.proofs.lines.opening.Statement.{statement}
 use Rattle.readout.proofs.lines.opening.Tie as tie
-use Rattle.readout.proofs.lines.opening.Reads as reads
-use Rattle.readout.proofs.lines.opening.Lts as lts
-use Rattle.text.proofs.put.Reads as put-reads
-use Rattle.text.proofs.put_reply.Reads as put-reply-reads
 
--- src/lines.rt:25:31
 slice-aggregate-put : tie.Need-slice-aggregate-put
 slice-aggregate-put c = search needs
 
--- src/lines.rt:25:9
 put-requires : tie.Need-put-requires
-put-requires c κs = search needs
+put-requires c κs = omega (arith, c .before .before .before .pre)
 
--- src/lines.rt:26:9
 put-reply-requires : tie.Need-put-reply-requires
-put-reply-requires c κs = search needs
+put-reply-requires c κs =
+    let w = c .before .before .before in
+    let s = w .before .before .before .before in
+    omega (arith, s .pre, w .put .ensures .counts, w .put .ensures .long)
 
--- src/lines.rt:27:20
 slice-aggregate-put-2 : tie.Need-slice-aggregate-put-2
 slice-aggregate-put-2 c = search needs
 
--- src/lines.rt:27:5
 put-requires-2 : tie.Need-put-requires-2
-put-requires-2 c κs = search needs
+put-requires-2 c κs =
+    let r = c .before .before .before .before in
+    let w = r .before .before .before .before in
+    let s = w .before .before .before .before in
+    omega (arith, s .pre, w .put .ensures .counts, w .put .ensures .long, r .put-reply .ensures .0 .long, r .put-reply .ensures .1)
 
--- src/lines.rt:21:1
 same-length : tie.Need-same-length
 same-length c = search needs
 
--- src/lines.rt:21:1
 returns : tie.Need-returns
-returns c = ?
+returns c =
+    let e = c .before .before in
+    let r = e .before .before .before .before .before in
+    let w = r .before .before .before .before in
+    (then (w .put .ensures) (then (r .put-reply .ensures .0) (e .put2 .ensures)), omega (arith, w .put .ensures .counts, r .put-reply .ensures .1, e .put2 .ensures .counts))
 
 pub opening-spec : {M : Type 1} → statement M
 opening-spec =

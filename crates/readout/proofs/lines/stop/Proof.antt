@@ -1,34 +1,37 @@
+-- `readout::lines::stop` meets its contract: the texts that are put one after the other are those of the line, and a number has no more than twenty digits.
 use borrow.Author.Needs.{needs}
+use native.Mathlib.Omega.{arith}
+use Rattle.text.proofs.Decimals.{capped}
+use Rattle.text.proofs.Texts.{then}
 use Rattle.readout.proofs.lines.stop.Statement.{statement}
 use Rattle.readout.proofs.lines.stop.Tie as tie
-use Rattle.readout.proofs.lines.stop.Reads as reads
-use Rattle.readout.proofs.lines.stop.Lts as lts
-use Rattle.text.proofs.put.Reads as put-reads
-use Rattle.text.proofs.put_numbered.Reads as put-numbered-reads
 
--- src/lines.rt:45:42
 slice-aggregate-put-numbered : tie.Need-slice-aggregate-put-numbered
 slice-aggregate-put-numbered c = search needs
 
--- src/lines.rt:45:9
 put-numbered-requires : tie.Need-put-numbered-requires
-put-numbered-requires c κs = search needs
+put-numbered-requires c κs =
+    let s = c .before .before .before in
+    omega (arith, s .pre, capped 20 (s .args .offset))
 
--- src/lines.rt:46:22
 slice-aggregate-put : tie.Need-slice-aggregate-put
 slice-aggregate-put c = search needs
 
--- src/lines.rt:46:5
 put-requires : tie.Need-put-requires
-put-requires c κs = search needs
+put-requires c κs =
+    let a = c .before .before .before .before in
+    let s = a .before .before .before .before in
+    omega (arith, s .pre, a .put-numbered .ensures .counts, a .put-numbered .ensures .long, capped 20 (s .args .offset))
 
--- src/lines.rt:41:1
 same-length : tie.Need-same-length
 same-length c = search needs
 
--- src/lines.rt:41:1
 returns : tie.Need-returns
-returns c = ?
+returns c =
+    let e = c .before .before in
+    let a = e .before .before .before .before .before in
+    let s = a .before .before .before .before in
+    (then (a .put-numbered .ensures) (e .put .ensures), omega (arith, a .put-numbered .ensures .counts, e .put .ensures .counts, capped 20 (s .args .offset)))
 
 pub stop-spec : {M : Type 1} → statement M
 stop-spec =

@@ -1,43 +1,62 @@
+-- `readout::lines::value` meets its contract: the texts that are put one after the other are those of the line.
 use borrow.Author.Needs.{needs}
+use Prim.Native.Nat.{_≤_}
+use native.Mathlib.Omega.{arith}
+use lib.ListN.{length}
+use Rattle.text.specs.Writing.{decimalOf}
+use Rattle.text.proofs.Decimals.{within}
+use Rattle.text.proofs.Texts.{then}
 use Rattle.readout.proofs.lines.value.Statement.{statement}
 use Rattle.readout.proofs.lines.value.Tie as tie
-use Rattle.readout.proofs.lines.value.Reads as reads
-use Rattle.readout.proofs.lines.value.Lts as lts
-use Rattle.text.proofs.put.Reads as put-reads
-use Rattle.text.proofs.put_number.Reads as put-number-reads
-use Rattle.text.proofs.put_reply.Reads as put-reply-reads
 
--- src/lines.rt:35:9
+-- the running number has no more than five digits
+few : (c : tie.Start) → length (decimalOf (c .args .n)) ≤ 5
+few c = within 20 4 (c .args .n) (c .pre .0)
+
 put-number-requires : tie.Need-put-number-requires
-put-number-requires c κs = search needs
+put-number-requires c κs =
+    let s = c .before .before in
+    omega (arith, s .pre .1, few s)
 
--- src/lines.rt:36:34
 slice-aggregate-put : tie.Need-slice-aggregate-put
 slice-aggregate-put c = search needs
 
--- src/lines.rt:36:9
 put-requires : tie.Need-put-requires
-put-requires c κs = search needs
+put-requires c κs =
+    let n = c .before .before .before .before in
+    let s = n .before .before .before in
+    omega (arith, s .pre .1, few s, n .put-number .ensures .counts, n .put-number .ensures .long)
 
--- src/lines.rt:37:9
 put-reply-requires : tie.Need-put-reply-requires
-put-reply-requires c κs = search needs
+put-reply-requires c κs =
+    let k = c .before .before .before in
+    let n = k .before .before .before .before .before in
+    let s = n .before .before .before in
+    omega (arith, s .pre .1, few s, n .put-number .ensures .counts, n .put-number .ensures .long, k .put .ensures .counts, k .put .ensures .long)
 
--- src/lines.rt:38:20
 slice-aggregate-put-2 : tie.Need-slice-aggregate-put-2
 slice-aggregate-put-2 c = search needs
 
--- src/lines.rt:38:5
 put-requires-2 : tie.Need-put-requires-2
-put-requires-2 c κs = search needs
+put-requires-2 c κs =
+    let r = c .before .before .before .before in
+    let k = r .before .before .before .before in
+    let n = k .before .before .before .before .before in
+    let s = n .before .before .before in
+    omega (arith, s .pre .1, few s, n .put-number .ensures .counts, n .put-number .ensures .long, k .put .ensures .counts, k .put .ensures .long, r .put-reply .ensures .0 .long, r .put-reply .ensures .1)
 
--- src/lines.rt:31:1
 same-length : tie.Need-same-length
 same-length c = search needs
 
--- src/lines.rt:31:1
 returns : tie.Need-returns
-returns c = ?
+returns c =
+    let e = c .before .before in
+    let r = e .before .before .before .before .before in
+    let k = r .before .before .before .before in
+    let n = k .before .before .before .before .before in (
+      then (n .put-number .ensures) (then (k .put .ensures) (then (r .put-reply .ensures .0) (e .put2 .ensures))),
+      omega (arith, few (n .before .before .before), n .put-number .ensures .counts, k .put .ensures .counts, r .put-reply .ensures .1, e .put2 .ensures .counts),
+    )
 
 pub value-spec : {M : Type 1} → statement M
 value-spec =
