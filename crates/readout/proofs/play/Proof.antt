@@ -2,10 +2,12 @@
 use borrow.Author.Needs.{needs}
 use borrow.Author.Tests.{lt-ltb, le-ltb}
 use mathlib.Core.Path.{_≡_, ap, _∙_}
-use Prim.Native.Nat.{ℕ, _*_}
+use mathlib.Core.List.{List}
+use Prim.Native.Nat.{ℕ, min}
 use native.Mathlib.Omega.{arith}
 use lib.ListN.{length, take, replicate, length-take, length-replicate}
 use Rattle.text.proofs.Texts.{counted}
+use Rattle.readout.specs.Input.{wordsOf}
 use Rattle.readout.specs.Output.{printed}
 use Rattle.readout.proofs.play.Statement.{statement}
 use Rattle.readout.proofs.play.Tie as tie
@@ -42,7 +44,14 @@ same-length-2 : tie.Need-same-length-2
 same-length-2 c = search needs
 
 returns-2 : tie.Need-returns-2
-returns-2 c = ?
+returns-2 c =
+    let m = c .before .before .before in
+    let k = m .before .before .before in
+    let i = k .before .before in
+    let bytes : List ℕ = i .before .before .before .args .bytes .now in
+    let lent : length {A = ℕ} (take (k .capped .result) (replicate 8192 0)) ≡ wordsOf bytes =
+    simp (length-take, length-replicate) (omega (arith, k .capped .ensures .1)) ∙ k .capped .ensures .0 ∙ ap (λ (n : ℕ). min n 8192) (k .before .number-at .ensures) in
+    (simp (le-ltb (length bytes) 8 (i .if1 .left)) (m .run .ensures .0 ∙ ap (λ (n : ℕ). printed n bytes) lent), m .run .ensures .1)
 
 pub play-spec : {M : Type 1} → statement M
 play-spec =
