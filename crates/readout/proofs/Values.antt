@@ -104,7 +104,7 @@ reached-more {bytes} {before} {words = words} {after} {start = start} {s} {progr
           let k : i + 1 ≡ 1 + length (commandsOf model (u .calls)) = omega (arith, u .read, commands-length model (u .calls)) in
           let l : length (commandsOf model (u .calls)) ≡ length (toldTo model (u .calls)) = commands-length model (u .calls) ∙ sym (told-length model (u .calls)) in
           rw (commands-more model (u .calls) c, told-more model (u .calls) c, lines-more (λ (n : ℕ) (x : ℤ) (t : Told). valueLine n t) v (o .told) 1 (commandsOf model (u .calls)) (toldTo model (u .calls)) l)
-              (then (u .prints) (rw k at (o .prints)));
+          (then (u .prints) (rw k at (o .prints)));
       fits = omega (arith, u .fits, o .fits);
     }
 

@@ -5,7 +5,7 @@ use Rattle.text.specs.Examples.{Example}
 
 abbrev pub examples : List Example
 examples =
-    -- the request's window of two values on 4 words, and 3, 1, 2, 2: open 0, 1 0 3 1, 2 0 1 2, 3 0 1 2, 4 0 2 4, end 4 4
+    -- a window of two values on 4 words, and 3, 1, 2, 2: open 0, 1 0 3 1, 2 0 1 2, 3 0 1 2, 4 0 2 4, end 4 4
     record {
       bytes =
           2 ∷ 0 ∷ 0 ∷ 0
@@ -115,7 +115,7 @@ examples =
           ∷ 101 ∷ 110 ∷ 100 ∷ 32 ∷ 48 ∷ 32 ∷ 48 ∷ 10
           ∷ [];
     }
-    -- no bytes, and seven: no window
+    -- no bytes, and seven bytes: no window
     ∷ record {
       bytes = [];
       output =

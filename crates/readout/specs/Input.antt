@@ -1,4 +1,4 @@
--- The limiter's input: W, the number of words to lend, and values.
+-- The limiter's input: W, the number of words to lend, and values. The quotes are from its description, at the head of Output.
 use mathlib.Core.List.{List, [], _∷_}
 use Prim.Native.Nat.{ℕ, zero, suc, _+_, _*_, _-_, _/_, _%_, min}
 use lib.IntN.{ℤ}

@@ -1,4 +1,5 @@
--- The lines of the limiter's output, which its issue describes. The parts of a line stand a space apart, and it ends with a line feed, as in the stream program.
+-- The lines that the limiter prints; the quotes are from its description, at the head of Output. The parts of a line stand a space apart, and it ends with a line feed, as in the stream
+-- program.
 use mathlib.Core.List.{List, [], _∷_, _++_}
 use Prim.Native.Nat.{ℕ}
 use Rattle.history.specs.Replies.{Told}

@@ -1,4 +1,9 @@
--- The whole output of the limiter, as a function of its bytes. `readout::write` leaves it in an array; the program's `main` reads the bytes before and writes the array after.
+-- The limiter, a program for document 02, point 2. It reads at most the first 65,536 bytes of standard input: bytes 0 to 3 are W and bytes 4 to 7 the number of words to lend (more than 8,192
+-- counts as 8,192), both unsigned, least significant first; then values, four bytes each, two's complement. It prints `open` and the reply; per value its running number from 1 and the reply,
+-- and after acceptance the least value and its place; where one to three bytes are left, `stop` and their byte offset; finally `end` with values read and values accepted. With fewer than
+-- eight bytes it prints `no window` alone.
+--
+-- This is its whole output, as a function of its bytes. `readout::write` leaves it in an array; the program's `main` reads the bytes before and writes the array after.
 use mathlib.Core.Bool.{cond}
 use mathlib.Core.List.{List, [], _++_}
 use Prim.Native.Nat.{ℕ, zero, suc}
@@ -35,6 +40,6 @@ printed n bytes =
 abbrev pub printedOf : List ℕ → List ℕ
 printedOf bytes = cond (ltb (length bytes) 8) noWindowLine (printed (wordsOf bytes) bytes)
 
--- THE WHOLE OUTPUT: "It reads at most the first 65,536 bytes of standard input"
+-- THE WHOLE OUTPUT: "It reads at most the first 65,536 bytes of standard input."
 abbrev pub outputOf : List ℕ → List ℕ
 outputOf bytes = printedOf (take 65536 bytes)

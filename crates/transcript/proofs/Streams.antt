@@ -141,7 +141,7 @@ reached-more {bytes} {before} {words = words} {after} {start = start} {s} {progr
           let k : r .read ≡ 1 + length (commandsOf model (u .calls)) = omega (arith, o .read, u .read, commands-length model (u .calls)) in
           let l : length (commandsOf model (u .calls)) ≡ length (toldTo model (u .calls)) = commands-length model (u .calls) ∙ sym (told-length model (u .calls)) in
           rw (commands-more model (u .calls) c, told-more model (u .calls) c, lines-more answerLine command (o .told) 1 (commandsOf model (u .calls)) (toldTo model (u .calls)) l)
-              (then (u .prints) (rw k at (o .prints)));
+          (then (u .prints) (rw k at (o .prints)));
       fits = omega (arith, u .fits, o .fits, m .2);
     }
 

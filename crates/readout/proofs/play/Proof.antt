@@ -23,7 +23,7 @@ returns c =
     let n = c .before .before in
     let i = n .before .before in
     let s = i .before .before .before in
-    (simp (lt-ltb _ 8 (i .if1 .taken)) (n .no-window .ensures .0 .says), counted (n .no-window .result) (n .no-window .last .0) (omega (arith, s .pre, n .no-window .ensures .1, n .no-window .ensures .0 .long)))
+    (simp (lt-ltb _ 8 (omega (arith, i .if1 .taken))) (n .no-window .ensures .0 .says), counted (n .no-window .result) (n .no-window .last .0) (omega (arith, s .pre, n .no-window .ensures .1, n .no-window .ensures .0 .long)))
 
 number-at-requires : tie.Need-number-at-requires
 number-at-requires c κs = search needs
@@ -51,7 +51,7 @@ returns-2 c =
     let bytes : List ℕ = i .before .before .before .args .bytes .now in
     let lent : length {A = ℕ} (take (k .capped .result) (replicate 8192 0)) ≡ wordsOf bytes =
     simp (length-take, length-replicate) (omega (arith, k .capped .ensures .1)) ∙ k .capped .ensures .0 ∙ ap (λ (n : ℕ). min n 8192) (k .before .number-at .ensures) in
-    (simp (le-ltb (length bytes) 8 (i .if1 .left)) (m .run .ensures .0 ∙ ap (λ (n : ℕ). printed n bytes) lent), m .run .ensures .1)
+    (simp (le-ltb (length bytes) 8 (omega (arith, i .if1 .left))) (m .run .ensures .0 ∙ ap (λ (n : ℕ). printed n bytes) lent), m .run .ensures .1)
 
 pub play-spec : {M : Type 1} → statement M
 play-spec =
