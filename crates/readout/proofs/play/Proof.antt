@@ -23,7 +23,7 @@ returns c =
     let n = c .before .before in
     let i = n .before .before in
     let s = i .before .before .before in
-    (simp (lt-ltb _ 8 (omega (arith, i .if1 .taken))) (n .no-window .ensures .0 .says), counted (n .no-window .result) (n .no-window .last .0) (omega (arith, s .pre, n .no-window .ensures .1, n .no-window .ensures .0 .long)))
+    (simp (lt-ltb (length (s .args .bytes .now)) 8 (omega (arith, i .if1 .taken))) (n .no-window .ensures .0 .says), counted (n .no-window .result) (n .no-window .last .0) (omega (arith, s .pre, n .no-window .ensures .1, n .no-window .ensures .0 .long)))
 
 number-at-requires : tie.Need-number-at-requires
 number-at-requires c κs = search needs
