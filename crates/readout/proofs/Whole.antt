@@ -1,7 +1,7 @@
 -- A whole run, from its opening to its last line. By the window's list theorem what the calls were told is what stands on the paper; so the lines that were written one after the other are
 -- those of the input.
 use mathlib.Core.Path.{_≡_, refl, sym, ap, _∙_}
-use mathlib.Core.List.{List, [], _∷_, _++_}
+use mathlib.Core.List.{List, _++_}
 use Prim.Native.Nat.{ℕ}
 use lib.IntN.{ℤ}
 use lib.ListN.{length, take}

@@ -1,6 +1,6 @@
 -- The lines that the limiter prints; the quotes are from its description, at the head of Output. The parts of a line stand a space apart, and it ends with a line feed, as in the stream
 -- program.
-use mathlib.Core.List.{List, [], _∷_, _++_}
+use mathlib.Core.List.{List, _∷_, _++_}
 use Prim.Native.Nat.{ℕ}
 use Rattle.history.specs.Replies.{Told}
 use Rattle.text.specs.Writing.{decimalOf}

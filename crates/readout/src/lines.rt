@@ -1,5 +1,4 @@
 // The lines that the limiter prints, each written behind the bytes that are written already, where there is room for the longest such line.
-ghost use mathlib.Core.Path.{_≡_};
 ghost use Prim.Native.Nat.{_+_, _<_, _≤_};
 ghost use lib.ListN.{length};
 ghost use Rattle.history.specs.Replies.{told};

@@ -1,7 +1,7 @@
 -- A whole run, from its opening to its last line. By the engine's list theorem what the calls were told is what the bookkeeper tells, and the last session is the paper's; so the lines
 -- that were written one after the other are those of the stream.
 use mathlib.Core.Path.{_≡_, refl, sym, ap, _∙_}
-use mathlib.Core.List.{List, [], _∷_, _++_, append-assoc}
+use mathlib.Core.List.{List, _++_, append-assoc}
 use Prim.Native.Nat.{ℕ, _≤_}
 use native.Mathlib.Omega.{arith}
 use lib.ListN.{length, take}
@@ -11,7 +11,7 @@ use Rattle.history.specs.declared.Session.{Session}
 use Rattle.history.specs.Replies.{Told, acceptances}
 use Rattle.history.specs.Histories.{History, Stepped, sessionOf, opening, model}
 use Rattle.history.proofs.Steps.{opening-accepted}
-use Rattle.runs.specs.Runs.{Call, Made, EachCall, AllAgree}
+use Rattle.runs.specs.Runs.{Made, EachCall, AllAgree}
 use Rattle.runs.specs.Lists.{repliesOf, stateOf, commandsOf, toldTo, AllLent}
 use Rattle.runs.proofs.Lists.{each-call, told-all, session-last, in-turn-made, commands-length}
 use Rattle.engine.specs.Demand.{Answered, OpeningAgrees, Meets}

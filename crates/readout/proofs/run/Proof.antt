@@ -1,6 +1,5 @@
 -- `readout::run` meets its contract: the lines of an opening, of the calls that follow, of bytes that are left and of the end are a whole run's, and the room is enough for each.
 use borrow.Author.Needs.{needs}
-use mathlib.Core.Path.{_∙_}
 use native.Mathlib.Omega.{arith}
 use Rattle.text.proofs.Texts.{counted}
 use Rattle.readout.proofs.Whole.{whole}

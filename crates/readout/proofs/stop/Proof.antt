@@ -1,6 +1,5 @@
 -- `readout::stop` meets its contract: where no bytes are left nothing is written, and else one line.
 use borrow.Author.Needs.{needs}
-use mathlib.Core.Path.{refl}
 use native.Mathlib.Omega.{arith}
 use Rattle.readout.proofs.Values.{not-stopped, stopped}
 use Rattle.readout.proofs.stop.Statement.{statement}
