@@ -54,10 +54,6 @@ module _ (opened : OpeningSays) (says : ValueSays) (opens : (width : ℕ) (first
   pub every-input : EveryInput opened says
   every-input = record { opening = λ width first left o q. opens width first left o q .any; value = λ s v lent left r q. does s v lent left r q .any }
 
--- POINT 2 over the whole list, where no more is known of the functions than their contracts: for a caller of the window
-pub by-contract : EveryRun Opens Does
-by-contract = every-run Opens Does (λ width first left o d. d) (λ s v lent left r d. d)
-
 -- WHAT A TAP WOULD BE TOLD
 pub as-a-tap : AsATap
 as-a-tap p n v h free e z a =
