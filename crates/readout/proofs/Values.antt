@@ -22,19 +22,10 @@ use Rattle.text.specs.Writing.{Adds}
 use Rattle.text.proofs.Texts.{nothing, then}
 use Rattle.text.proofs.Numbered.{lines-more}
 use Rattle.readout.specs.declared.Progress.{Progress}
-use Rattle.readout.specs.Lines.{valueLine, stopLine}
+use Rattle.readout.specs.Lines.{valueLine}
 use Rattle.readout.specs.Input.{numberAt, valuesFrom, countOf}
-use Rattle.readout.specs.Output.{valueLines, stopLines}
+use Rattle.readout.specs.Output.{valueLines}
 use Rattle.readout.specs.Private.{Performs, Follows}
-
--- no line where no bytes are left
-pub not-stopped : (offset : ℕ) {left : ℕ} → left ≡ 0 → (out : List ℕ) (used : ℕ) → Adds out used (stopLines left offset) out used
-not-stopped offset e out used = rw e (nothing out used)
-
--- and one where there are some
-pub stopped : {out written : List ℕ} {used r : ℕ} (left offset : ℕ) → (left ≡ 0 → ⊥) → Adds out used (stopLine offset) written r → Adds out used (stopLines left offset) written r
-stopped zero offset z a = absurd (z refl)
-stopped (suc more) offset z a = a
 
 -- one value more, behind n
 values-more : (n at : ℕ) (bytes : List ℕ) → valuesFrom (suc n) at bytes ≡ valuesFrom n at bytes ++ (signedOf (numberAt bytes (at + 4 * n)) ∷ [])

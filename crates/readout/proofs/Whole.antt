@@ -19,9 +19,9 @@ use Rattle.window.proofs.Theorem.{by-contract}
 use Rattle.text.specs.Writing.{Adds}
 use Rattle.text.proofs.Texts.{then}
 use Rattle.readout.specs.declared.Progress.{Progress}
-use Rattle.readout.specs.Lines.{openLine, endLine}
+use Rattle.readout.specs.Lines.{openLine, stopLines, endLine}
 use Rattle.readout.specs.Input.{widthOf, countOf, valuesOf, leftOf, endOf}
-use Rattle.readout.specs.Output.{valueLines, stopLines, printed}
+use Rattle.readout.specs.Output.{valueLines, printed}
 use Rattle.readout.specs.Private.{Follows}
 use Rattle.readout.proofs.Values.{values-length}
 

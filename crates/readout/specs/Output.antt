@@ -5,8 +5,8 @@
 --
 -- This is its whole output, as a function of its bytes. `readout::write` leaves it in an array; the program's `main` reads the bytes before and writes the array after.
 use mathlib.Core.Bool.{cond}
-use mathlib.Core.List.{List, [], _++_}
-use Prim.Native.Nat.{ℕ, zero, suc}
+use mathlib.Core.List.{List, _++_}
+use Prim.Native.Nat.{ℕ}
 use lib.Dec.{ltb}
 use lib.IntN.{ℤ}
 use lib.ListN.{length, take}
@@ -14,17 +14,12 @@ use Rattle.history.specs.Replies.{Told, acceptances}
 use Rattle.runs.specs.Lists.{repliesOf}
 use Rattle.text.specs.Numbered.{linesFrom}
 use Rattle.window.specs.Windows.{Stepped, opening, model}
-use Rattle.readout.specs.Lines.{noWindowLine, openLine, valueLine, stopLine, endLine}
+use Rattle.readout.specs.Lines.{noWindowLine, openLine, valueLine, stopLines, endLine}
 use Rattle.readout.specs.Input.{widthOf, wordsOf, valuesOf, leftOf, endOf}
 
 -- "per value its running number", here from n on: a line for each value, of what it is told
 abbrev pub valueLines : ℕ → List ℤ → List Told → List ℕ
 valueLines n values told = linesFrom (λ (number : ℕ) (v : ℤ) (t : Told). valueLine number t) n values told
-
--- "where one to three bytes are left": a line at the offset
-abbrev pub stopLines : (left offset : ℕ) → List ℕ
-stopLines zero offset = []
-stopLines (suc more) offset = stopLine offset
 
 -- what is printed of eight bytes or more, where n words are lent at the opening and for each value: "It prints `open` and the reply; per value ..; where one to three bytes are left,
 -- `stop` ..; finally `end` with values read and values accepted". What is told is the window's paper's, on which each value after a refused opening is told 4

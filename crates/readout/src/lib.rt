@@ -5,9 +5,8 @@ ghost use mathlib.Core.Path.{_≡_};
 ghost use Prim.Native.Nat.{_+_, _*_, _<_, _≤_, min};
 ghost use lib.ListN.{length, take};
 ghost use Rattle.io.specs.Counts.{Counts};
-ghost use Rattle.text.specs.Writing.{Adds};
 ghost use Rattle.readout.specs.Input.{numberAt, countOf};
-ghost use Rattle.readout.specs.Output.{stopLines, printed, printedOf, outputOf};
+ghost use Rattle.readout.specs.Output.{printed, printedOf, outputOf};
 ghost use Rattle.readout.specs.Private.{Performs, Follows};
 use window::Window;
 
@@ -78,17 +77,6 @@ fn follow(
     progress
 }
 
-// The line of bytes that are left, where there are any.
-fn stop(out: &mut [u8], used: usize, left: usize, offset: usize) -> usize
-    requires { ⌜ used + 26 ≤ length (now out) ⌝ }
-    ensures { λ r. ⌜ Adds (now (out .entry)) used (stopLines left offset) (now (out .exit)) r × (r ≤ used + 26) ⌝ }
-{
-    if left == 0 {
-        return used;
-    }
-    lines::stop(out, used, offset)
-}
-
 // A window on the words lent, from its opening to its last line.
 fn run(bytes: &[u8], area: &mut [u64], out: &mut [u8]) -> usize
     requires { ⌜ (8 ≤ length (now bytes)) × (length (now bytes) ≤ 65536) × (540710 ≤ length (now out)) ⌝ }
@@ -101,7 +89,7 @@ fn run(bytes: &[u8], area: &mut [u64], out: &mut [u8]) -> usize
     let behind = bytes.len() - 8;
     let count = behind / 4;
     let progress = follow(bytes, count, area, session, out, start);
-    let stopped = stop(out, progress.used, behind % 4, 8 + 4 * count);
+    let stopped = lines::stop(out, progress.used, behind % 4, 8 + 4 * count);
     lines::end(out, stopped, count, progress.accepted)
 }
 
