@@ -24,7 +24,7 @@ play-requires-2 : tie.Need-play-requires-2
 play-requires-2 c κs = (simp length-take (omega arith), search needs)
 
 returns-2 : tie.Need-returns-2
-returns-2 c = search needs
+returns-2 c = c .play2 .ensures
 
 pub write-spec : {M : Type 1} → statement M
 write-spec =
