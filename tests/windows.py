@@ -1,11 +1,14 @@
 #!/usr/bin/env python3
-"""What the limiter prints for the bytes on standard input, worked out by brute force from document 02, point 2, alone.
+"""What the limiter prints for the bytes on standard input, worked out by brute force from document 02, point 2, and the program's description (at the head of
+crates/readout/specs/Output.antt) alone.
 
-Every value is written down, and after each one the last W are looked through. Nothing here is taken from the crates.
+Every value is written down, and after each one the last W are looked through. Nothing here is taken from the crates' code.
 
   python3 tests/windows.py < crates/limiter/stdin | diff - crates/limiter/stdout
 
-tests/windows has further runs, each as NAME.bytes and NAME.out.
+tests/limiter.txt has the values of crates/limiter/stdin, with W = 144; three bytes stand behind them. tests/windows has further runs, each as NAME.bytes and NAME.out: W = 2 with 3, 1, 2, 2;
+W = 1; constant values; ties; both ends of the values' range; W = 0, 4,097 and 4,294,967,295; too few words, one too few for the greatest W, and none; more words than 8,192, and the
+most that four bytes can name; one, two and three bytes left, and one without a value; no bytes, seven and eight. tests/limiter.py makes long runs.
 """
 import sys
 
