@@ -3,11 +3,11 @@
 use mathlib.Core.Path.{_≡_, refl, ap, _∙_}
 use mathlib.Core.Bool.{true}
 use mathlib.Core.List.{List, [], _∷_, _++_}
-use Prim.Native.Nat.{ℕ}
+use Prim.Native.Nat.{ℕ, suc}
 use lib.ListN.{length}
 use Rattle.runs.specs.Runs.{Model, isOwn, Call, wordsAfter, stateAfter, Made, EachCall, AllAgree}
 use Rattle.runs.specs.Lists.{repliesOf, stateOf, commandsOf, toldTo, AllLent, InTurn, stateAfterAll, wordsAfterAll, lastSession, lastWords}
-use Rattle.runs.proofs.Induction.{own-lent}
+use Rattle.runs.proofs.Induction.{own-length, own-lent}
 
 -- what follows from what is known of each call is known of each call
 pub each-call : (M : Model) (P Q : List ℕ → M .State → M .State → Call M → Type 0) → ((now : List ℕ) (h later : M .State) (c : Call M) → P now h later c → Q now h later c)
@@ -33,14 +33,15 @@ module _ (M : Model) (n m : ℕ) (first : List ℕ) where
       rw (l .0) at rest
 
 module _ (M : Model) (did : M .Session → Call M → Type 0) where
-  -- calls made in turn from words of the opened length are a run, each lent as many
-  pub in-turn-made : (long : (s : M .Session) (c : Call M) → did s c → length (c .left) ≡ length (c .lent)) (n : ℕ) → (n ≡ 0 → ⊥)
-      → (s : M .Session) (words : List ℕ) (cs : List (Call M)) → length words ≡ n → InTurn M did s words cs → Made M did n s words cs × AllLent M n cs
-  in-turn-made long n z s words [] l t = (tt, tt)
-  in-turn-made long n z s words (c ∷ cs) l t =
-      let m : length (c .lent) ≡ n = ap length (t .0) ∙ l in
-      let rest = in-turn-made long n z (c .session) (c .left) cs (long s c (t .1) ∙ m) (t .2) in
-      (((λ _. t .0), t .1, rw (own-lent n (c .lent) z m) (rest .0)), (m, rest .1))
+  -- calls made in turn from m words are a run, each lent as many, where these are the opening's; and where nothing is opened they are a run as well, for then no words are the opening's
+  pub in-turn-made : (long : (s : M .Session) (c : Call M) → did s c → length (c .left) ≡ length (c .lent)) (n m : ℕ) → ((n ≡ 0 → ⊥) → m ≡ n)
+      → (s : M .Session) (words opened : List ℕ) (cs : List (Call M)) → ((n ≡ 0 → ⊥) → words ≡ opened) → length words ≡ m → InTurn M did s words cs
+      → Made M did n s opened cs × AllLent M m cs
+  in-turn-made long n m e s words opened [] o l t = (tt, tt)
+  in-turn-made long n m e s words opened (c ∷ cs) o l t =
+      let k : length (c .lent) ≡ m = ap length (t .0) ∙ l in
+      let rest = in-turn-made long n m e (c .session) (c .left) (wordsAfter M n opened c) cs (λ z. rw (own-lent n (c .lent) z (k ∙ e z))) (long s c (t .1) ∙ k) (t .2) in
+      (((λ own. t .0 ∙ o (own-length n (c .lent) own .0)), t .1, rest .0), (k, rest .1))
 
   -- one call more, after those that were made in turn
   pub in-turn-more : (s : M .Session) (words : List ℕ) (cs : List (Call M)) (c : Call M) → InTurn M did s words cs → c .lent ≡ lastWords M words cs
@@ -77,6 +78,15 @@ module _ (M : Model) where
   pub told-more : (cs : List (Call M)) (c : Call M) → toldTo M (cs ++ (c ∷ [])) ≡ toldTo M cs ++ (c .told ∷ [])
   told-more [] c = refl
   told-more (a ∷ cs) c = ap (λ (x : List (M .Told)). a .told ∷ x) (told-more cs c)
+
+  -- there are as many commands as calls, and as many are told
+  pub commands-length : (cs : List (Call M)) → length (commandsOf M cs) ≡ length cs
+  commands-length [] = refl
+  commands-length (c ∷ cs) = ap suc (commands-length cs)
+
+  pub told-length : (cs : List (Call M)) → length (toldTo M cs) ≡ length cs
+  told-length [] = refl
+  told-length (c ∷ cs) = ap suc (told-length cs)
 
   pub session-more : (s : M .Session) (cs : List (Call M)) (c : Call M) → lastSession M s (cs ++ (c ∷ [])) ≡ c .session
   session-more s [] c = refl

@@ -1,2 +1,4 @@
 pub mod Writing
 pub mod Parts
+pub mod Numbered
+pub mod Examples

@@ -4,7 +4,6 @@ use mathlib.Core.Path.{_≡_, refl, sym, ap, _∙_}
 use mathlib.Core.List.{List, [], _∷_, _++_, append-assoc, append-nil}
 use mathlib.Core.Option.{none}
 use Prim.Native.Nat.{ℕ, zero, suc, _+_, _*_, _-_, _≤_}
-use native.Mathlib.Nat.{add-zero}
 use native.Mathlib.Omega.{arith}
 use lib.ListN.{length, take, drop, length-append, length-drop}
 use lib.Seq.{take-all, drop-drop}
@@ -15,7 +14,7 @@ use Rattle.history.specs.Histories.{model}
 use Rattle.history.proofs.Acceptances.{acceptances-more}
 use Rattle.runs.specs.Runs.{Call}
 use Rattle.runs.specs.Lists.{commandsOf, toldTo, InTurn, lastSession, lastWords}
-use Rattle.runs.proofs.Lists.{in-turn-more, commands-more, told-more, session-more, words-more}
+use Rattle.runs.proofs.Lists.{in-turn-more, commands-more, told-more, commands-length, told-length, session-more, words-more}
 use Rattle.reading.specs.declared.Reading.{Reading}
 use Rattle.reading.specs.declared.Reading.the-variants.{Next}
 use Rattle.reading.specs.Kinds.{bytesOf}
@@ -24,24 +23,13 @@ use Rattle.reading.proofs.Lengths.{some-byte, next-within}
 use Rattle.engine.specs.Demand.{Answered}
 use Rattle.engine.specs.Contracts.{Does}
 use Rattle.text.specs.Writing.{Adds}
-use Rattle.text.proofs.Texts.{then}
+use Rattle.text.proofs.Texts.{nothing, then}
+use Rattle.text.proofs.Numbered.{lines-more}
 use Rattle.transcript.specs.declared.Progress.{Progress}
 use Rattle.transcript.specs.Lines.{answerLine}
 use Rattle.transcript.specs.Streams.{Stream, stops, streamFrom, streamOf}
 use Rattle.transcript.specs.Output.{answerLines, stopLines}
 use Rattle.transcript.specs.Private.{Performs, Follows}
-
--- one line more, of the call behind the others
-lines-more : (n : ℕ) (cs : List (Call model)) (c : Call model)
-    → answerLines n (commandsOf model (cs ++ (c ∷ []))) (toldTo model (cs ++ (c ∷ [])))
-    ≡ answerLines n (commandsOf model cs) (toldTo model cs) ++ answerLine (n + length cs) (c .command) (c .told)
-lines-more n [] c = append-nil (answerLine n (c .command) (c .told)) ∙ ap (λ (k : ℕ). answerLine k (c .command) (c .told)) (sym (add-zero n))
-lines-more n (d ∷ ds) c =
-    let k : n + 1 + length ds ≡ n + suc (length ds) = omega arith in
-    let line : List ℕ = answerLine n (d .command) (d .told) in
-    ap (λ (x : List ℕ). line ++ x) (lines-more (n + 1) ds c)
-    ∙ sym (append-assoc line (answerLines (n + 1) (commandsOf model ds) (toldTo model ds)) (answerLine (n + 1 + length ds) (c .command) (c .told)))
-    ∙ ap (λ (x : ℕ). (line ++ answerLines (n + 1) (commandsOf model ds) (toldTo model ds)) ++ answerLine x (c .command) (c .told)) k
 
 -- the rest of a stream, as it is lent, is all that is behind a place
 pub rest : (s : List ℕ) (at : ℕ) → take (length s - at) (drop at s) ≡ drop at s
@@ -99,7 +87,7 @@ reached-start bytes before out start s = record {
   now = refl;
   read = refl;
   accepted = refl;
-  prints = record { says = sym (append-nil (take start out)); counts = omega arith; long = refl };
+  prints = nothing out start;
   fits = omega arith;
 }
 
@@ -150,8 +138,10 @@ reached-more {bytes} {before} {words = words} {after} {start = start} {s} {progr
       read = omega (arith, o .read, u .read, length-append (u .calls) (c ∷ []));
       accepted = rw (told-more model (u .calls) c) (omega (arith, o .accepted, u .accepted, acceptances-more (toldTo model (u .calls)) (o .told)));
       prints =
-          let k : r .read ≡ 1 + length (u .calls) = omega (arith, o .read, u .read) in
-          rw (lines-more 1 (u .calls) c) (then (u .prints) (rw k at (o .prints)));
+          let k : r .read ≡ 1 + length (commandsOf model (u .calls)) = omega (arith, o .read, u .read, commands-length model (u .calls)) in
+          let l : length (commandsOf model (u .calls)) ≡ length (toldTo model (u .calls)) = commands-length model (u .calls) ∙ sym (told-length model (u .calls)) in
+          rw (commands-more model (u .calls) c, told-more model (u .calls) c, lines-more answerLine command (o .told) 1 (commandsOf model (u .calls)) (toldTo model (u .calls)) l)
+          (then (u .prints) (rw k at (o .prints)));
       fits = omega (arith, u .fits, o .fits, m .2);
     }
 

@@ -1,7 +1,7 @@
 -- A whole run, from its opening to its last line. By the engine's list theorem what the calls were told is what the bookkeeper tells, and the last session is the paper's; so the lines
 -- that were written one after the other are those of the stream.
 use mathlib.Core.Path.{_≡_, refl, sym, ap, _∙_}
-use mathlib.Core.List.{List, [], _∷_, _++_, append-assoc}
+use mathlib.Core.List.{List, _++_, append-assoc}
 use Prim.Native.Nat.{ℕ, _≤_}
 use native.Mathlib.Omega.{arith}
 use lib.ListN.{length, take}
@@ -11,9 +11,9 @@ use Rattle.history.specs.declared.Session.{Session}
 use Rattle.history.specs.Replies.{Told, acceptances}
 use Rattle.history.specs.Histories.{History, Stepped, sessionOf, opening, model}
 use Rattle.history.proofs.Steps.{opening-accepted}
-use Rattle.runs.specs.Runs.{Call, Made, EachCall, AllAgree}
+use Rattle.runs.specs.Runs.{Made, EachCall, AllAgree}
 use Rattle.runs.specs.Lists.{repliesOf, stateOf, commandsOf, toldTo, AllLent}
-use Rattle.runs.proofs.Lists.{each-call, told-all, session-last, in-turn-made}
+use Rattle.runs.proofs.Lists.{each-call, told-all, session-last, in-turn-made, commands-length}
 use Rattle.engine.specs.Demand.{Answered, OpeningAgrees, Meets}
 use Rattle.engine.specs.Contracts.{Opens, Does}
 use Rattle.engine.proofs.Theorem.{by-contract}
@@ -25,11 +25,6 @@ use Rattle.transcript.specs.Streams.{streamOf}
 use Rattle.transcript.specs.Output.{answerLines, stopLines, printed}
 use Rattle.transcript.specs.Private.{Follows}
 
--- as many commands as calls
-as-many : (cs : List (Call model)) → length cs ≡ length (commandsOf model cs)
-as-many [] = refl
-as-many (c ∷ cs) = omega (arith, as-many cs)
-
 module _ {first left bytes heading written : List ℕ} {o : Answer} {start : ℕ} {progress : Progress} (m : 576 ≤ length first) (p : Opens first left o)
     (f : Follows (o .session) left bytes heading start written progress) where
   abbrev h : History
@@ -39,7 +34,7 @@ module _ {first left bytes heading written : List ℕ} {o : Answer} {start : ℕ
   words = ap (λ (x : Stepped). x .history .words) (opening-accepted (length first) m)
 
   made : Made model (Answered Does) (h .words) (o .session) left (f .calls) × AllLent model (h .words) (f .calls)
-  made = in-turn-made model (Answered Does) (λ s c d. d .1 .long) (h .words) (λ z. omega (arith, words)) (o .session) left (f .calls) (p .long ∙ sym words) (f .made)
+  made = in-turn-made model (Answered Does) (λ s c d. d .1 .long) (h .words) (h .words) (λ z. refl) (o .session) left left (f .calls) (λ z. refl) (p .long ∙ sym words) (f .made)
 
   demand : OpeningAgrees first left o × EachCall model (Meets (h .words) first) (h .words) left h (f .calls)
   demand = by-contract first left o (f .calls) p (made .0)
@@ -64,7 +59,7 @@ module _ {first left bytes heading written : List ℕ} {o : Answer} {start : ℕ
   ends : endLine (progress .read) (progress .accepted) (progress .session .active)
       ≡ endLine (length commands) (acceptances replies) (length (stateOf model h (length first) commands .active))
   ends =
-      ap (λ (k : ℕ). endLine k (progress .accepted) (progress .session .active)) (f .read ∙ as-many (f .calls))
+      ap (λ (k : ℕ). endLine k (progress .accepted) (progress .session .active)) (f .read ∙ sym (commands-length model (f .calls)))
       ∙ ap (λ (k : ℕ). endLine (length commands) k (progress .session .active)) (f .accepted ∙ ap acceptances told)
       ∙ ap (λ (s : Session). endLine (length commands) (acceptances replies) (s .active)) last
 

@@ -2,14 +2,10 @@
 -- that is cut off. A command is a line
 -- here, and so is a line of the output.
 use mathlib.Core.Path.{_≡_}
-use mathlib.Core.List.{List, [], _∷_, map}
-use Prim.Native.Nat.{ℕ}
+use mathlib.Core.List.{List, [], _∷_}
+use Rattle.text.specs.Examples as Examples
+use Rattle.text.specs.Examples.{Example}
 use Rattle.transcript.specs.Output.{outputOf}
-
--- bytes, and all that is printed of them
-pub record Example : Type 0 where
-  pub bytes : List ℕ
-  pub output : List ℕ
 
 -- the whole output of an example's bytes is what it says
 abbrev pub Printed : Example → Type 0
@@ -17,7 +13,7 @@ Printed e = outputOf (e .bytes) ≡ e .output
 
 -- and so it is with each of a list
 abbrev pub AllPrinted : List Example → Type 0
-AllPrinted es = map (λ (e : Example). outputOf (e .bytes)) es ≡ map (λ (e : Example). e .output) es
+AllPrinted es = Examples.AllPrinted outputOf es
 
 -- "For the bytes of V 12, M, V −3, Q 1, C 1, Q 1 the output is, whole": taps 60, 1 V 0, 2 M 0, 3 V 0, 4 Q 0 -3 2, 5 C 0, 6 Q 11, end 6 5 0
 abbrev pub example : Example

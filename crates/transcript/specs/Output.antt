@@ -1,21 +1,20 @@
 -- Document 01, "Played examples": the whole output of the stream program, as a function of its bytes. `transcript::write` leaves it in an array; the program's `main` reads the bytes before
 -- and writes the array after.
-use mathlib.Core.List.{List, [], _∷_, _++_}
+use mathlib.Core.List.{List, [], _++_}
 use mathlib.Core.Option.{Option, none, some}
-use Prim.Native.Nat.{ℕ, _+_}
+use Prim.Native.Nat.{ℕ}
 use lib.ListN.{length, take}
 use Rattle.history.specs.declared.Command.{Command}
 use Rattle.history.specs.Replies.{Told, acceptances}
 use Rattle.history.specs.Histories.{History, opening, model}
 use Rattle.runs.specs.Lists.{repliesOf, stateOf}
+use Rattle.text.specs.Numbered.{linesFrom}
 use Rattle.transcript.specs.Lines.{tapsLine, answerLine, stopLine, endLine}
 use Rattle.transcript.specs.Streams.{Stream, streamOf}
 
 -- "per command its running number", here from n on: a line for each command and what it is told
 abbrev pub answerLines : ℕ → List Command → List Told → List ℕ
-answerLines n [] told = []
-answerLines n (c ∷ cs) [] = []
-answerLines n (c ∷ cs) (t ∷ ts) = answerLine n c t ++ answerLines (n + 1) cs ts
+answerLines n commands told = linesFrom answerLine n commands told
 
 -- "upon a reading refusal `stop`": a line at the offset where there is one
 abbrev pub stopLines : ℕ → Option ℕ → List ℕ

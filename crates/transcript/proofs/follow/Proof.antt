@@ -1,11 +1,11 @@
 -- `transcript::follow` meets its contract. The loop's invariant: the calls made so far are those of the commands before the present place, in turn, and the lines written are theirs. Each
 -- command that is read moves the place by a byte or more, so that the measure, what is left of the stream, falls; where none is read the calls are those of the whole stream.
 use borrow.Author.Needs.{needs}
-use mathlib.Core.Path.{refl, sym, _∙_}
-use mathlib.Core.List.{append-nil}
+use mathlib.Core.Path.{refl, _∙_}
 use Prim.Native.Nat.{_+_, _-_, _≤_}
 use native.Mathlib.Omega.{arith}
-use lib.ListN.{length, take}
+use lib.ListN.{length}
+use Rattle.text.proofs.Texts.{nothing}
 use Rattle.transcript.proofs.Streams.{Reached, reached-start, moves, reached-more, reached-end}
 use Rattle.transcript.proofs.follow.Statement.{statement}
 use Rattle.transcript.proofs.follow.Tie as tie
@@ -47,7 +47,7 @@ returns c =
     let l = c .before .before .before .before in
     let s = l .before .before .before .before in
     reached-end (l .loop .inv) (c .before .before .read .ensures) (c .enum-told .given .1) refl
-    (record { says = sym (append-nil (take (l .loop .progress .used) (l .loop .out))); counts = omega arith; long = refl })
+    (nothing (l .loop .out) (l .loop .progress .used))
     (omega (arith, l .loop .inv .fits, l .loop .inv .within, s .pre .0))
 
 enum-known-reading : tie.Need-enum-known-reading Inv-loop μ-loop
