@@ -10,7 +10,7 @@
  *                              bytes of stack    of these below the stack pointer    registers other than the general ones
  *     filkotar_gain            488               128                                 xmm0
  *     filkotar_window_open     0                 0                                   none
- *     filkotar_window_value    56                8                                   none
+ *     filkotar_window_value    40                0                                   none
  *
  * Those below the stack pointer are in the red zone of the calling convention: where an interrupt handler runs on the same stack, it has to leave these
  * as they are.
