@@ -3,13 +3,12 @@ use mathlib.Core.Path.{_≡_}
 use mathlib.Core.Bool.{true, false}
 use mathlib.Core.List.{List, [], _∷_, _++_}
 use mathlib.Core.Logic.{_⊎_}
-use Prim.Native.Nat.{ℕ, _+_, _*_, _-_, _%_, _<_, _≤_}
+use Prim.Native.Nat.{ℕ, _+_, _*_, _-_, _<_, _≤_}
 use lib.IntN.{ℤ}
 use lib.ListN.{length, getD}
 use Rattle.history.specs.declared.Position.{Position}
 use Rattle.history.specs.declared.Minimum.{Minimum}
 use Rattle.history.specs.Minima.{takesOver, standsAt, next, presentAt, minimum}
-use Rattle.deque.specs.declared.Header.{Header}
 use Rattle.deque.specs.Words.{unpacked, entryAt, Room, Holds}
 
 -- `clear`: no entries, as before a stream's first value, in words that have room
@@ -24,12 +23,9 @@ pub record Boundary (w : List ℕ) (front n : ℕ) (v : ℤ) (r : ℕ) : Type 0 
   pub over : r < n → takesOver v (entryAt w front r .value) ≡ true
   pub under : (k : ℕ) → k + 1 ≡ r → takesOver v (entryAt w front k .value) ≡ false
 
--- `leave`: the header without the front entry, where as many positions as there are slots have come since. After the last slot the front is the first
-pub record Left (w : List ℕ) (slots : ℕ) (h : Header) (place : Position) (r : Header) : Type 0 where
-  pub slot : r .front < slots
-  pub stays : place .0 < getD w (1 + h .front) 0 % 4294967296 + slots → r ≡ h
-  pub leaves : getD w (1 + h .front) 0 % 4294967296 + slots ≤ place .0
-      → (r .count + 1 ≡ h .count) × ((r .front ≡ h .front + 1) ⊎ ((r .front ≡ 0) × (h .front + 1 ≡ slots)))
+-- `slot_after`: the next slot or, after the last one, the first
+abbrev pub SlotAfter : (slots front r : ℕ) → Type 0
+SlotAfter slots front r = ((r ≡ front + 1) × (r < slots)) ⊎ ((r ≡ 0) × (front + 1 ≡ slots))
 
 -- `alone`: the word is that of the only entry
 pub record Alone (w v : List ℕ) (word r : ℕ) : Type 0 where
@@ -46,15 +42,15 @@ pub record Repeated (w v : List ℕ) (slots at word : ℕ) : Type 0 where
   pub kept : (i : ℕ) → (slots < at → i ≡ at - slots → ⊥) → getD v i 0 ≡ getD w i 0
 
 -- `put`: the word is that of the entry at k, which is the last then; beyond the slots it stands once more
-pub record Put (w v : List ℕ) (slots : ℕ) (h : Header) (later : ℤ) (word r : ℕ) : Type 0 where
+pub record Put (w v : List ℕ) (slots front count : ℕ) (later : ℤ) (word r : ℕ) : Type 0 where
   pub k : ℕ
-  pub found : Boundary w (h .front) (h .count) later k
+  pub found : Boundary w front count later k
   pub long : length v ≡ length w
-  pub head : getD v 0 0 ≡ h .front * 65536 + k + 1
-  pub new : getD v (1 + h .front + k) 0 ≡ word
-  pub again : slots ≤ h .front + k → getD v (1 + h .front + k - slots) 0 ≡ word
-  pub kept : (i : ℕ) → 0 < i → (i ≡ 1 + h .front + k → ⊥) → (slots ≤ h .front + k → i ≡ 1 + h .front + k - slots → ⊥) → getD v i 0 ≡ getD w i 0
-  pub returns : r ≡ getD v (1 + h .front) 0
+  pub head : getD v 0 0 ≡ front * 65536 + k + 1
+  pub new : getD v (1 + front + k) 0 ≡ word
+  pub again : slots ≤ front + k → getD v (1 + front + k - slots) 0 ≡ word
+  pub kept : (i : ℕ) → 0 < i → (i ≡ 1 + front + k → ⊥) → (slots ≤ front + k → i ≡ 1 + front + k - slots → ⊥) → getD v i 0 ≡ getD w i 0
+  pub returns : r ≡ getD v (1 + front) 0
 
 -- the value m comes to words that hold the suffix minima from position i on. From then on they are those from `oldest` on, which is i or the next position, is not behind the value's, and has
 -- no more positions from it on than slots: as many, where any value has left

@@ -24,8 +24,11 @@ packed m = wordOf (m .value) * 4294967296 + m .place .0
 abbrev pub valueIn : ℕ → ℤ
 valueIn e = valueOf (e / 4294967296)
 
+abbrev pub placeIn : ℕ → ℕ
+placeIn e = e % 4294967296
+
 abbrev pub unpacked : ℕ → Minimum
-unpacked e = standsAt (valueIn e) (record { 0 = e % 4294967296 })
+unpacked e = standsAt (valueIn e) (record { 0 = placeIn e })
 
 -- the word of the entry that is k behind the front, and the entry
 abbrev pub entryWord : List ℕ → (front k : ℕ) → ℕ

@@ -3,10 +3,11 @@
 // a front that has moved over all of them starts anew at the first.
 ghost use mathlib.Core.Path.{_≡_};
 ghost use Prim.Native.Nat.{_+_, _*_, _<_, _≤_};
+ghost use lib.Dec.{leb};
 ghost use lib.ListN.{length};
 ghost use Rattle.history.specs.Minima.{takesOver};
-ghost use Rattle.deque.specs.Words.{packed, valueIn, unpacked};
-ghost use Rattle.deque.specs.Calls.{Cleared, Boundary, Left, Alone, Repeated, Put, Given, Arrived};
+ghost use Rattle.deque.specs.Words.{packed, valueIn, placeIn, unpacked, entryWord};
+ghost use Rattle.deque.specs.Calls.{Cleared, Boundary, SlotAfter, Alone, Repeated, Put, Given, Arrived};
 use history::Minimum;
 use history::Position;
 
@@ -15,12 +16,6 @@ pub const MOST_SLOTS: usize = 4096;
 
 // How many entries are tried one by one, before the search goes on by halves.
 const NEAR: usize = 8;
-
-// The front's slot, and how many entries there are.
-struct Header {
-    front: usize,
-    count: usize,
-}
 
 // An entry as a word: the value above the position.
 fn pack(m: Minimum) -> u64
@@ -95,26 +90,23 @@ fn taken_over(area: &[u64], front: usize, n: usize, v: i32) -> usize
     halved(area, front, k, v)
 }
 
-// The front entry leaves where as many positions as there are slots have come since.
-fn leave(area: &[u64], slots: usize, head: Header, place: Position) -> Header
-    requires { ⌜ (slots ≤ 4096) × (slots < length (now area)) × (head .front < slots) × (0 < head .count) ⌝ }
-    ensures { λ r. ⌜ Left (now (area .entry)) slots head place r ⌝ }
+// Whether the entry in a slot has to leave: as many positions as there are slots have come since.
+fn is_gone(area: &[u64], slots: usize, front: usize, place: Position) -> bool
+    requires { ⌜ (slots ≤ 4096) × (slots < length (now area)) × (front < slots) ⌝ }
+    ensures { λ r. ⌜ r ≡ leb (placeIn (entryWord (now (area .entry)) front 0) + slots) (place .0) ⌝ }
 {
-    let front = head.front;
-    let count = head.count;
-    if (place.0 as u64) < area[1 + front] % 4294967296 + slots as u64 {
-        return head;
-    }
+    area[1 + front] % 4294967296 + slots as u64 <= place.0 as u64
+}
+
+// The slot behind a slot: after the last one comes the first.
+fn slot_after(slots: usize, front: usize) -> usize
+    requires { ⌜ (slots ≤ 4096) × (front < slots) ⌝ }
+    ensures { λ r. ⌜ SlotAfter slots front r ⌝ }
+{
     if front + 1 < slots {
-        return Header {
-            front: front + 1,
-            count: count - 1,
-        };
+        return front + 1;
     }
-    Header {
-        front: 0,
-        count: count - 1,
-    }
+    0
 }
 
 // An entry that is the only one.
@@ -138,12 +130,11 @@ fn repeat(area: &mut [u64], slots: usize, at: usize, word: u64)
 }
 
 // An entry comes behind those that it does not take over from. What is returned is the front entry then.
-fn put(area: &mut [u64], slots: usize, head: Header, v: i32, word: u64) -> u64
-    requires { ⌜ (slots ≤ 4096) × (2 * slots ≤ length (now area)) × (head .front < slots) × (head .count < slots) ⌝ }
-    ensures { λ r. ⌜ Put (now (area .entry)) (now (area .exit)) slots head v word r ⌝ }
+fn put(area: &mut [u64], slots: usize, front: usize, count: usize, v: i32, word: u64) -> u64
+    requires { ⌜ (slots ≤ 4096) × (2 * slots ≤ length (now area)) × (front < slots) × (count < slots) ⌝ }
+    ensures { λ r. ⌜ Put (now (area .entry)) (now (area .exit)) slots front count v word r ⌝ }
 {
-    let front = head.front;
-    let k = taken_over(area, front, head.count, v);
+    let k = taken_over(area, front, count, v);
     let at = 1 + front + k;
     area[at] = word;
     repeat(area, slots, at, word);
@@ -151,28 +142,28 @@ fn put(area: &mut [u64], slots: usize, head: Header, v: i32, word: u64) -> u64
     area[1 + front]
 }
 
-// An entry comes, of a value and its position, and those leave that are as many positions older as there are slots. A header that cannot be the deque's counts as that of no entries.
+// An entry comes, of a value and its position, and the front entry leaves where it is as many positions older as there are slots. A header that cannot be the deque's counts as that of no
+// entries.
 fn give(area: &mut [u64], slots: usize, v: i32, place: Position, word: u64) -> u64
     requires { ⌜ (0 < slots) × (slots ≤ 4096) × (2 * slots ≤ length (now area)) ⌝ }
     ensures { λ r. ⌜ Given (now (area .entry)) (now (area .exit)) slots v place word r ⌝ }
 {
-    let front = (area[0] / 65536) as usize;
-    let count = (area[0] % 65536) as usize;
+    let mut front = (area[0] / 65536) as usize;
+    let mut count = (area[0] % 65536) as usize;
     if slots <= front {
         return alone(area, word);
     }
-    if count == 0 {
+    if is_gone(area, slots, front, place) {
+        if count <= 1 {
+            return alone(area, word);
+        }
+        front = slot_after(slots, front);
+        count -= 1;
+    }
+    if slots <= count {
         return alone(area, word);
     }
-    let head = leave(area, slots, Header { front, count }, place);
-    let n = head.count;
-    if n == 0 {
-        return alone(area, word);
-    }
-    if slots <= n {
-        return alone(area, word);
-    }
-    put(area, slots, head, v, word)
+    put(area, slots, front, count, v, word)
 }
 
 // A value comes at the next position, and the one that is as many positions older as there are slots leaves. What is returned is the least of those that are left.

@@ -57,7 +57,7 @@ same-length c = simp length-set (as-long (c .before .before .before))
 returns : tie.Need-returns
 returns c =
     let b = c .before .before .before .before .before in
-    put-words _ _ _ _ _ _ _ (omega arith) (omega arith) (omega (arith, b .taken-over .ensures .within))
+    put-words _ _ _ _ _ _ _ _ (omega arith) (omega arith) (omega (arith, b .taken-over .ensures .within))
     (rw (toZ-ofZ (b .before .before .before .fits .v)) at (b .taken-over .ensures)) (c .before .before .before .repeat .ensures)
 
 pub put-spec : {M : Type 1} → statement M
