@@ -65,9 +65,6 @@ last-due present e = rw (eq-eqb (present .0) 4294967295 e)
 pub earlier-free : (present : Position) → (present .0 ≡ 4294967295 → ⊥) → valueRefusal present ≡ 0
 earlier-free present n = rw (ne-eqb (present .0) 4294967295 n)
 
-pub free-earlier : (present : Position) → valueRefusal present ≡ 0 → present .0 ≡ 4294967295 → ⊥
-free-earlier present e l = omega (arith, last-due present l)
-
 -- of the engine's commands
 module _ (s : Session) (n : ℕ) (b : Bool) (c : Command) where
   pub refusal-unopened : s .words ≡ 0 → refusal s n b c ≡ 4

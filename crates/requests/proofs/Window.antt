@@ -1,8 +1,8 @@
 -- POINT 2 of document 02. Its theorems and its worked examples are cited under their statements; and each clause is used, in plain numbers, of the functions as they stand in the source. So a clause
 -- that is dropped, or that gains a hypothesis or an alternative, no longer proves what stands here.
-use mathlib.Core.Path.{_≡_, refl}
+use mathlib.Core.Path.{_≡_, refl, ap}
 use mathlib.Core.Bool.{true, false}
-use mathlib.Core.List.{List, [], _∷_, _++_}
+use mathlib.Core.List.{List, [], _∷_, _++_, map}
 use mathlib.Core.Logic.{_⊎_, inl, inr}
 use mathlib.Core.Option.{some}
 use Prim.Native.Nat.{ℕ, _+_, _*_, _-_, _<_, _≤_}
@@ -14,6 +14,7 @@ use contract.Lifetimes.{Lfts}
 use denote.Ref.{RefT}
 use Rattle.history.specs.declared.Position.{Position}
 use Rattle.history.specs.declared.Minimum.{Minimum}
+use Rattle.history.specs.declared.Standing.the-variants.{Unmarked}
 use Rattle.history.specs.declared.Command.the-variants.{Query}
 use Rattle.history.specs.Minima.{standsAt, presentAt, valueAt}
 use Rattle.history.specs.Replies.{numbered, accepted, showing, told}
@@ -28,12 +29,12 @@ use Rattle.window.specs.Windows.{Paper, sessionOf, opening, oldest, refusalOf, 
 use Rattle.window.specs.Promises.{AnyValue}
 use Rattle.window.specs.Claim.{Answered, Meets, EveryRun, EveryInput, OldestInside, AsATap}
 use Rattle.window.specs.Contracts.{Opens, Does}
-use Rattle.window.specs.Examples.{AllWorked, AllGiven, examples}
+use Rattle.window.specs.Examples.{worked, AllGiven, examples}
 use Rattle.window.proofs.Inside as inside
 use Rattle.window.proofs.Theorem as theorem
 use Rattle.window.proofs.Tied as tied
 use Rattle.window.proofs.Tied.{Opened, Valued, opened-of, valued-of}
-use Rattle.window.proofs.Examples as worked
+use Rattle.window.proofs.Examples as given
 use Rattle.window.proofs.open.Reads as open-reads
 use Rattle.window.proofs.value.Reads as value-reads
 use Rattle.requests.specs.Witness.{Line, RunExists}
@@ -53,11 +54,21 @@ oldest-inside = inside.oldest-inside
 as-a-tap : AsATap
 as-a-tap = theorem.as-a-tap
 
-examples-worked : AllWorked examples
-examples-worked = worked.examples-worked
+examples-worked : map worked examples ≡ examples
+examples-worked = given.examples-worked
+
+examples-count : length examples ≡ 21
+examples-count = refl
 
 examples-given : AllGiven Opened Valued examples
-examples-given = worked.examples-given
+examples-given = given.examples-given
+
+-- each function promises its contract, of all that it is given
+opens-as-promised : (width : ℕ) (first left : List ℕ) (o : Answer) → Opened width first left o → Opens width first left o
+opens-as-promised width first left o (κs, x, d) = d
+
+does-as-promised : (s : Window) (v : ℤ) (lent left : List ℕ) (r : Answer) → Valued s v lent left r → Does s v lent left r
+does-as-promised s v lent left r (κs, x, d) = d
 
 -- neither function asks for anything
 open-asks-nothing : (κs : Lfts 1) (x : RefT (List ℕ)) (width : ℕ) → open-reads.Asked κs (x, (width, tt))
@@ -114,6 +125,10 @@ module _ (width : ℕ) (first left : List ℕ) (o : Answer) (q : Opened width fi
       → (told (o .reply) ≡ accepted) × (o .session ≡ record { words = length first; width = width; present = record { 0 = 0 } }) × ((i : ℕ) → 2 * width ≤ i → getD left i 0 ≡ getD first i 0)
   opens l m k = let a = every-input .opening width first left o q in (a .opens l m k .0, a .opens l m k .1, a .rest)
 
+-- the paper of a value that is accepted: it is written after the others, and N and W stay
+paper-more : (p : Paper) (n : ℕ) (v : ℤ) → refusalOf p n ≡ 0 → step p n v .paper ≡ record { words = p .words; width = p .width; values = p .values ++ (v ∷ []) }
+paper-more p n v e = rw e
+
 -- AFTER EACH VALUE of a run, whatever came before: the paper p, the opening's words, and one call more
 module _ (width : ℕ) (first left : List ℕ) (o : Answer) (calls : List (Call model)) (q : Opened width first left o)
     (made : Made model (Answered Valued) (opening (length first) width .paper .words) (o .session) left calls) (c : Call model) where
@@ -143,6 +158,10 @@ module _ (width : ℕ) (first left : List ℕ) (o : Answer) (calls : List (Call 
 
     pub value-session : c .session ≡ record { words = later .words; width = later .width; present = presentAt (later .values) }
     value-session = meets .1 .agrees .session
+
+    -- "Values enter one by one": one to which no refusal applies is written after the others
+    pub value-entered : refusalOf p (length (c .lent)) ≡ 0 → later .values ≡ p .values ++ (c .command ∷ [])
+    value-entered e = ap (λ (x : Paper). x .values) (paper-more p (length (c .lent)) (c .command) e)
 
     -- "under document 01's rule about unaltered words"
     pub elsewhere : isOwn n (c .lent) ≡ false → c .left ≡ c .lent
@@ -181,6 +200,13 @@ tap-told : (p : Paper) (n : ℕ) (v : ℤ) (h : History) → refusalOf p n ≡ 0
     → step p n v .tells ≡ Histories.step h (h .words) (Query (oldest (presentAt (h .values)) (p .width))) .tells
 tap-told p n v h f e z a = as-a-tap p n v h f e z a
 
+-- a tap that stands at position 2, and the window W = 2 after 3, 1, 2
+abbrev tapped : History
+tapped = record { words = 640; limit = 1; values = pos 3 ∷ pos 1 ∷ pos 2 ∷ []; active = record { 0 = 2 } ∷ []; standing = Unmarked; peak = 1 }
+
+tap-worked : step (record { words = 4; width = 2; values = pos 3 ∷ pos 1 ∷ [] }) 4 (pos 2) .tells ≡ Histories.step tapped 640 (Query (record { 0 = 2 })) .tells
+tap-worked = tap-told (record { words = 4; width = 2; values = pos 3 ∷ pos 1 ∷ [] }) 4 (pos 2) tapped refl refl (λ e. omega arith) refl
+
 -- ON ANY SESSION AND ANY WORDS: "each value meets 4, 5 and 6 as in the engine"
 module _ (s : Window) (v : ℤ) (lent left : List ℕ) (r : Answer) (d : Valued s v lent left r) where
   any : AnyValue s lent left (r .session) (told (r .reply))
@@ -206,8 +232,8 @@ module _ (s : Window) (v : ℤ) (lent left : List ℕ) (r : Answer) (d : Valued 
   long = any .long
 
 -- the numbers of refused openings, and W = 144, "for three milliseconds at 48 kHz", as the definitions have them
-openings-worked : opening 0 4097 .tells ≡ numbered 12
-openings-worked = refl
+openings-worked : (opening 0 4097 .tells ≡ numbered 12) × (opening 287 144 .tells ≡ numbered 13) × (opening 288 144 .tells ≡ accepted)
+openings-worked = (refl, refl, refl)
 
 oldest-worked : (oldest (record { 0 = 143 }) 144 .0 ≡ 1) × (oldest (record { 0 = 144 }) 144 .0 ≡ 1) × (oldest (record { 0 = 145 }) 144 .0 ≡ 2) × (oldest (record { 0 = 9 }) 1 .0 ≡ 9)
 oldest-worked = (refl, refl, refl, refl)
@@ -219,3 +245,9 @@ pub example-given : (first left : List ℕ) (o : Answer) (calls : List (Call mod
     → toldTo model calls
     ≡ showing (standsAt (pos 3) (record { 0 = 1 })) ∷ showing (standsAt (pos 1) (record { 0 = 2 })) ∷ showing (standsAt (pos 1) (record { 0 = 2 })) ∷ showing (standsAt (pos 2) (record { 0 = 4 })) ∷ []
 example-given first left o calls l q m vs a = examples-given .1 .1 .1 .1 .1 .1 .1 .1 .1 .1 .1 .1 .1 .1 .0 first left o calls l q m vs a .tells
+
+-- and one whose opening is refused: a value is told 4
+pub refused-given : (first left : List ℕ) (o : Answer) (calls : List (Call model)) → length first ≡ 4 → Opened 0 first left o
+    → Made model (Answered Valued) (opening (length first) 0 .paper .words) (o .session) left calls → commandsOf model calls ≡ pos 1 ∷ [] → AllLent model 4 calls
+    → toldTo model calls ≡ numbered 4 ∷ []
+refused-given first left o calls l q m vs a = examples-given .1 .1 .1 .1 .1 .1 .1 .1 .1 .1 .1 .1 .1 .1 .1 .1 .1 .1 .1 .0 first left o calls l q m vs a .tells

@@ -40,6 +40,13 @@ session-numbers = refl
 answer-numbers : answer-type.struct .parts ≡ session-type.the-field ∷ u32-field ∷ i32-field ∷ u32-field ∷ []
 answer-numbers = refl
 
+-- in this order
+session-order : (s : WindowNumbers) → session-type.struct .as-values s ≡ (s .words, (s .width, (s .present, tt)))
+session-order s = refl
+
+answer-order : (r : WindowOutcome) → answer-type.struct .as-values r ≡ (r .session, (r .number, (r .value, (r .place, tt))))
+answer-order r = refl
+
 open-takes : open-function.signature .params ≡ SliceRefMutOf (0 ∷ []) tt (plain (λ κs. u64)) (λ κs. tt) ∷ plain (λ κs. usize) ∷ []
 open-takes = refl
 
@@ -205,3 +212,13 @@ does s v lent left a (r, (κs, x, d), (n, t)) =
 -- POINT 2, of the functions that C calls
 every-run : EveryRun Opened Valued
 every-run = theorem.every-run Opened Valued opens does
+
+-- THE CONVERSES: no more is learnt of the functions that C calls than their contracts say, so that the claim is of all that these allow, and of the runs that exist. The reference may be any
+any : RefT (List ℕ)
+any = record { ptr = (0, 0); name = 0; now = [] }
+
+opened-of : (width : ℕ) (first left : List ℕ) (a : Answer) → Opens width first left a → Opened width first left a
+opened-of width first left a d = (outcomeOf a, (([], tt), any, record { answer = a; opens = d; numbers = refl }), (refl, told-opening d))
+
+valued-of : (s : Window) (v : ℤ) (lent left : List ℕ) (a : Answer) → Does s v lent left a → Valued s v lent left a
+valued-of s v lent left a d = (outcomeOf a, (([], tt), any, record { answer = a; does = d; numbers = refl }), (refl, told-value d))

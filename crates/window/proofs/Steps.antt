@@ -15,7 +15,7 @@ use Rattle.laws.proofs.Tests.{lt-or-ge}
 use Rattle.history.specs.declared.Minimum.{Minimum}
 use Rattle.history.specs.Minima.{Least, presentAt}
 use Rattle.history.specs.Replies.{numbered, accepted, valueRefusal}
-use Rattle.history.proofs.Steps.{lent-none, free-earlier}
+use Rattle.history.proofs.Steps.{lent-none}
 use Rattle.history.proofs.Lowest.{minimum-least}
 use Rattle.window.specs.Windows.{Paper, Stepped, openingRefusal, blank, opening, oldest, least, refusalOf, accept, step}
 use Rattle.window.specs.Keeping.{Sound}
@@ -35,18 +35,9 @@ module _ (n width : ℕ) where
   pub words-enough : 1 ≤ width → width ≤ 4096 → 2 * width ≤ n → openingRefusal n width ≡ 0
   words-enough l m f = rw (le-leb 1 width l, le-leb width 4096 m, le-ltb n (2 * width) f)
 
-  -- where none applies, W is in its range and there are words enough
-  pub opening-free : openingRefusal n width ≡ 0 → (1 ≤ width) × (width ≤ 4096) × (2 * width ≤ n)
-  opening-free e =
-      ⊎-elim
-      (λ (a : width < 1). absurd (omega (arith, width-zero a)))
-      (λ (a : 1 ≤ width).
-      ⊎-elim
-      (λ (b : 4096 < width). absurd (omega (arith, width-large a b)))
-      (λ (b : width ≤ 4096).
-      ⊎-elim (λ (c : n < 2 * width). absurd (omega (arith, words-few a b c))) (λ (c : 2 * width ≤ n). (a, b, c)) (lt-or-ge n (2 * width)))
-      (lt-or-ge 4096 width))
-      (lt-or-ge width 1)
+  -- where none applies, there is a width
+  opening-some : openingRefusal n width ≡ 0 → 1 ≤ width
+  opening-some e = ⊎-elim (λ (l : width < 1). absurd (omega (arith, width-zero l))) (λ (l : 1 ≤ width). l) (lt-or-ge width 1)
 
   pub opening-refused : (k : ℕ) → openingRefusal n width ≡ k → (k ≡ 0 → ⊥) → opening n width ≡ record { paper = blank 0 0; tells = numbered k }
   opening-refused k e z = rw (e, ne-eqb k 0 z)
@@ -57,8 +48,8 @@ module _ (n width : ℕ) where
   -- an opening leads to a sound paper, of as many words as were lent where it has words at all
   pub opening-sound : Sound (opening n width .paper)
   opening-sound = elim (ℕ-discrete (openingRefusal n width) 0) [
-    | yes e ↦ let f = opening-free e in rw (opening-accepted e) (record { some = λ z. f .0; few = f .1; wide = f .2; short = omega arith })
-    | no e ↦ rw (opening-refused _ refl e) (record { some = λ z. absurd (z refl); few = omega arith; wide = omega arith; short = omega arith })
+    | yes e ↦ rw (opening-accepted e) (record { some = λ z. opening-some e })
+    | no e ↦ rw (opening-refused _ refl e) (record { some = λ z. absurd (z refl) })
   ]
 
   pub opening-words : (opening n width .paper .words ≡ 0 → ⊥) → opening n width .paper .words ≡ n
@@ -89,9 +80,7 @@ module _ (p : Paper) (n : ℕ) (v : ℤ) where
   -- a value leads to a sound paper
   pub step-sound : Sound p → Sound (step p n v .paper)
   step-sound y = elim (ℕ-discrete (refusalOf p n) 0) [
-    | yes e ↦
-        let f = free-earlier (presentAt (p .values)) (lent-none (p .words) n (valueRefusal (presentAt (p .values))) e .2) in
-        rw (step-accepted e) (record { some = y .some; few = y .few; wide = y .wide; short = omega (arith, f, y .short, length-append (p .values) (v ∷ [])) })
+    | yes e ↦ rw (step-accepted e) (record { some = y .some })
     | no e ↦ rw (step-refused _ refl e) y
   ]
 

@@ -9,12 +9,9 @@ use Rattle.deque.specs.Words.{Holds}
 use Rattle.window.specs.declared.Window.{Window}
 use Rattle.window.specs.Windows.{Paper, sessionOf, oldest, model}
 
--- what holds of every paper that an opening and values lead to: an opened window has at least 2 × W words, W is within its range, and no position is beyond the highest
+-- what holds of every paper that an opening and values lead to: an opened window has a width
 pub record Sound (p : Paper) : Type 0 where
   pub some : (p .words ≡ 0 → ⊥) → 1 ≤ p .width
-  pub few : p .width ≤ 4096
-  pub wide : 2 * p .width ≤ p .words
-  pub short : length (p .values) ≤ 4294967295
 
 -- the words keep the paper p, and were `first` just before its opening
 pub record Keeps (p : Paper) (first words : List ℕ) : Type 0 where
