@@ -1,2 +1,3 @@
 pub mod Witness
 pub mod Private
+pub mod Limiter

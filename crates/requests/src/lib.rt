@@ -1,11 +1,12 @@
 // The theorems of document 02's points, cited under their statements and used clause by clause, of the functions as they stand in the source (proofs/). The code here makes runs of the
-// window, so that the claim over all of them speaks of something.
+// window, so that the claim over all of them speaks of something, and writes an example of the limiter's output.
 ghost use mathlib.Core.Path.{_≡_};
-ghost use lib.ListN.{length};
+ghost use lib.ListN.{length, take};
 ghost use Rattle.window.specs.Windows.{sessionOf, blank};
 ghost use Rattle.window.specs.Contracts.{Opens, Does};
 ghost use Rattle.requests.specs.Witness.{asked, leaving, lines, sessionLeft, unopened, RunExists};
 ghost use Rattle.requests.specs.Private.{Valued};
+ghost use Rattle.requests.specs.Limiter.{output};
 use window::Window;
 
 // The calls of `Witness.leaving`. The first is lent no words.
@@ -43,4 +44,37 @@ pub fn refused_run() -> Window
     let second = window::value(first.session, &mut other, 1);
     let third = window::value(second.session, &mut other[0..0], 2);
     third.session
+}
+
+// The limiter's whole output for W = 2 on 4 words and the values 3, 1, 2, 2.
+pub fn limiter_example(out: &mut [u8; 540710]) -> usize
+    ensures { λ r. ⌜ take r (now (out .exit)) ≡ output ⌝ }
+{
+    let bytes = [
+        2,
+        0,
+        0,
+        0,
+        4,
+        0,
+        0,
+        0,
+        3,
+        0,
+        0,
+        0,
+        1,
+        0,
+        0,
+        0,
+        2,
+        0,
+        0,
+        0,
+        2,
+        0,
+        0,
+        0,
+    ];
+    readout::write(&bytes, out)
 }
