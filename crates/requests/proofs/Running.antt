@@ -1,5 +1,5 @@
 -- Runs of the window that are made: calls one after the other, of which its contract is known; by point 2's claim each was told what the paper tells, and that computes to the lines.
-use mathlib.Core.Path.{_≡_, refl, sym, ap, _∙_}
+use mathlib.Core.Path.{_≡_, refl, _∙_}
 use mathlib.Core.List.{List, _∷_}
 use mathlib.Core.Logic.{_⊎_}
 use Prim.Native.Nat.{ℕ}
@@ -8,10 +8,10 @@ use lib.ListN.{length}
 use Rattle.history.specs.Minima.{lowest}
 use Rattle.history.specs.Replies.{told}
 use Rattle.runs.specs.Runs.{Call, Made, EachCall, AllAgree}
-use Rattle.runs.specs.Lists.{worked, stateAfterAsked}
+use Rattle.runs.specs.Lists.{linesOf, worked, stateAfterAsked}
 use Rattle.runs.proofs.Lists.{each-call}
 use Rattle.runs.proofs.Calling as calling
-use Rattle.runs.proofs.Calling.{lines-worked, session-worked}
+use Rattle.runs.proofs.Calling.{played}
 use Rattle.window.specs.declared.Window.{Window}
 use Rattle.window.specs.declared.Answer.{Answer}
 use Rattle.window.specs.Windows.{Paper, sessionOf, opening, model}
@@ -54,6 +54,10 @@ module _ (width n : ℕ) (ls : List Line) {first left after : List ℕ} {o : Ans
   agrees : AllAgree model (start .words) first left start (m .calls)
   agrees = each-call model (Meets (start .words) first) _ (λ now h later c x. x .agrees) (start .words) left start (m .calls) (rw l at (claim .1))
 
+  -- its lines are those that the paper works out, and its last session is the paper's
+  made-lines : (linesOf model (m .calls) ≡ worked model start (asked ls)) × (r ≡ sessionOf (stateAfterAsked model start (asked ls)))
+  made-lines = played model (start .words) first start m (rw l at (claim .0 .session)) agrees
+
   -- A RUN EXISTS where an opening was made and then calls whose lines the paper works out; and the session after it is the paper's
   pub run-exists : worked model start (asked ls) ≡ ls → RunExists width n ls Opens Does r × (r ≡ sessionOf (stateAfterAsked model start (asked ls)))
   run-exists w = (
@@ -66,10 +70,8 @@ module _ (width n : ℕ) (ls : List Line) {first left after : List ℕ} {o : Ans
       tells = rw l at (claim .0 .tells);
       made = made;
       long = l;
-      plays = lines-worked model (start .words) first left start (m .calls) agrees ∙ ap (worked model start) (m .asked) ∙ w;
+      plays = made-lines .0 ∙ w;
       returned = m .returned;
     },
-    sym (m .returned)
-        ∙ session-worked model (start .words) first left start (o .session) (m .calls) (rw l at (claim .0 .session)) agrees
-        ∙ ap (λ (x : List (ℤ × ℕ)). sessionOf (stateAfterAsked model start x)) (m .asked),
+    made-lines .1,
   )

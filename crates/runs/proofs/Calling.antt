@@ -1,6 +1,6 @@
 -- Calls that are made one after the other: one call goes before those that follow it. A call lent words of the opened length is lent the opening's, and leaves them to the next one; a
 -- call lent others leaves the opening's as they were. Calls that agree with the model have the lines that it makes, and return the session of its state.
-use mathlib.Core.Path.{_≡_, refl, ap, _∙_}
+use mathlib.Core.Path.{_≡_, refl, sym, ap, _∙_}
 use mathlib.Core.List.{List, [], _∷_}
 use mathlib.Core.Logic.{_⊎_}
 use Prim.Native.Nat.{ℕ}
@@ -46,14 +46,22 @@ module _ {M : Model} {did : M .Session → Call M → Type 0} where
 
 module _ (M : Model) (n : ℕ) (first : List ℕ) where
   -- calls that agree have the lines that the model makes of what they were asked
-  pub lines-worked : (words : List ℕ) (h : M .State) (cs : List (Call M)) → AllAgree M n first words h cs → linesOf M cs ≡ worked M h (askedOf M cs)
+  lines-worked : (words : List ℕ) (h : M .State) (cs : List (Call M)) → AllAgree M n first words h cs → linesOf M cs ≡ worked M h (askedOf M cs)
   lines-worked words h [] a = refl
   lines-worked words h (c ∷ cs) a =
       ap (λ (t : M .Told). (c .command, length (c .lent), t) ∷ linesOf M cs) (a .0 .tells)
       ∙ ap (λ (ls : List (Line M)). (c .command, length (c .lent), M .tells h (length (c .lent)) (c .command)) ∷ ls) (lines-worked _ _ cs (a .1))
 
   -- and return the session of its state
-  pub session-worked : (words : List ℕ) (h : M .State) (s : M .Session) (cs : List (Call M)) → s ≡ M .sessionOf h → AllAgree M n first words h cs
+  session-worked : (words : List ℕ) (h : M .State) (s : M .Session) (cs : List (Call M)) → s ≡ M .sessionOf h → AllAgree M n first words h cs
       → lastSession M s cs ≡ M .sessionOf (stateAfterAsked M h (askedOf M cs))
   session-worked words h s [] e a = e
   session-worked words h s (c ∷ cs) e a = session-worked _ _ (c .session) cs (a .0 .session) (a .1)
+
+  -- so calls that were made have the lines that the model makes of what was asked, and the last of them returned the session of its state
+  pub played : {did : M .Session → Call M → Type 0} {s r : M .Session} {words after : List ℕ} {asks : List (M .Command × ℕ)} (h : M .State) (m : Commanded M did n s words after asks r)
+      → s ≡ M .sessionOf h → AllAgree M n first words h (m .calls) → (linesOf M (m .calls) ≡ worked M h asks) × (r ≡ M .sessionOf (stateAfterAsked M h asks))
+  played {s = s} {words = words} h m e a = (
+    lines-worked words h (m .calls) a ∙ ap (worked M h) (m .asked),
+    sym (m .returned) ∙ session-worked words h s (m .calls) e a ∙ ap (λ (x : List (M .Command × ℕ)). M .sessionOf (stateAfterAsked M h x)) (m .asked),
+  )

@@ -1,7 +1,7 @@
 -- When a session and the lent words are those of a window's paper. How the words keep it is the program's affair, and nobody has to believe it.
 use mathlib.Core.Path.{_≡_}
 use mathlib.Core.List.{List}
-use Prim.Native.Nat.{ℕ, _*_, _≤_}
+use Prim.Native.Nat.{ℕ, _≤_}
 use lib.ListN.{length}
 use Rattle.history.specs.Minima.{presentAt}
 use Rattle.runs.specs.Runs.{AsLent}
