@@ -16,7 +16,7 @@ use Rattle.history.specs.declared.Event.{Event}
 use Rattle.history.specs.declared.Due.{Due}
 use Rattle.history.specs.declared.Due.the-variants.{Nothing, Refused}
 use Rattle.history.specs.declared.Refusal.{Refusal}
-use Rattle.history.specs.declared.Refusal.the-variants.{AreaTooShort, UnknownKind, ArgumentCutOff, Unopened, OtherLength, LastPosition, NothingToMark, AlreadyMarked, AlreadyClosed, Full, NotActive, WidthOutOfRange, TooFewWords}
+use Rattle.history.specs.declared.Refusal.the-variants.{AreaTooShort, UnknownKind, ArgumentCutOff, Unopened, OtherLength, LastPosition, NothingToMark, AlreadyMarked, AlreadyClosed, Full, NotActive, WidthOutOfRange, TooFewWords, RangeOutOfTake, OtherIndexLength}
 use Rattle.history.specs.Replies.{numbered, accepted, numberOf, valueRefusal, markRefusal, ownRefusal, lentRefusal, refusal}
 use Rattle.history.specs.Standings.{transitionOf}
 use Rattle.history.specs.Histories.{History, Stepped, limitOf, blank, opening, accept, refusalOf, step}
@@ -36,6 +36,8 @@ some-number Full e = omega arith
 some-number NotActive e = omega arith
 some-number WidthOutOfRange e = omega arith
 some-number TooFewWords e = omega arith
+some-number RangeOutOfTake e = omega arith
+some-number OtherIndexLength e = omega arith
 
 -- where so many words were opened and n are lent, and `own` is due to a command beside that
 module _ (opened n own : ℕ) where

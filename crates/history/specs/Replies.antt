@@ -48,6 +48,9 @@ numberOf Refusal.NotActive = 11
 -- document 02, point 2, at a window's opening
 numberOf Refusal.WidthOutOfRange = 12
 numberOf Refusal.TooFewWords = 13
+-- document 02, point 3, of a stored take and its index
+numberOf Refusal.RangeOutOfTake = 14
+numberOf Refusal.OtherIndexLength = 15
 
 -- what each case of a reply tells
 abbrev pub told : Reply → Told

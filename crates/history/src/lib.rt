@@ -56,6 +56,8 @@ pub enum Refusal {
     NotActive,
     WidthOutOfRange,
     TooFewWords,
+    RangeOutOfTake,
+    OtherIndexLength,
 }
 
 pub enum Reply {
@@ -90,7 +92,7 @@ pub struct Transition {
     pub after: Standing,
 }
 
-// A refusal's number in document 01's list or, of a window's opening, document 02's.
+// A refusal's number in document 01's list or, of a window's opening and of a stored take, document 02's.
 pub fn number(refusal: Refusal) -> u8
     ensures { λ r. ⌜ r ≡ numberOf refusal ⌝ }
 {
@@ -108,6 +110,8 @@ pub fn number(refusal: Refusal) -> u8
         Refusal::NotActive => 11,
         Refusal::WidthOutOfRange => 12,
         Refusal::TooFewWords => 13,
+        Refusal::RangeOutOfTake => 14,
+        Refusal::OtherIndexLength => 15,
     }
 }
 

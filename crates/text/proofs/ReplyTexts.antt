@@ -36,6 +36,8 @@ number-few Refusal.Full = omega arith
 number-few Refusal.NotActive = omega arith
 number-few Refusal.WidthOutOfRange = omega arith
 number-few Refusal.TooFewWords = omega arith
+number-few Refusal.RangeOutOfTake = omega arith
+number-few Refusal.OtherIndexLength = omega arith
 
 -- nor has any reply's
 pub told-few : (r : Reply) → told r .number < 100

@@ -1,0 +1,231 @@
+// A static range minimum over blocks: document 02, point 3. A finished take, which is a lent list of values, stands beside its index, the least of each block of 64 values. One call builds
+// the index, one searches a range of the take, and one hands back a stretch of it.
+ghost use mathlib.Core.Path.{_≡_};
+ghost use Prim.Native.Nat.{_+_, _*_, _<_, _≤_};
+ghost use lib.ListN.{length, take as front};
+ghost use Rattle.history.specs.Minima.{takesOver};
+ghost use Rattle.blocks.specs.Takes.{leastFrom, blockOf, blockCount, stretchOf};
+ghost use Rattle.blocks.specs.Contracts.{Builds, Searches};
+ghost use Rattle.blocks.specs.Private.{LastPlace, lowerOf, OfBlocks, withLeft, withRight, blocksBefore, Covers};
+use history::Refusal;
+
+// A place in a take, counted from 0.
+pub struct Offset(pub usize);
+
+// The least value of a range, and where it stands.
+pub struct Found {
+    pub value: i32,
+    pub place: Offset,
+}
+
+pub enum Reply {
+    Accepted,
+    Lowest(Found),
+    Refused(Refusal),
+}
+
+// How many blocks a take has.
+fn block_count(n: usize) -> usize
+    ensures { λ r. ⌜ r ≡ blockCount n ⌝ }
+{
+    if n == 0 {
+        return 0;
+    }
+    (n - 1) / 64 + 1
+}
+
+// A block of a take. The last one may be shorter.
+fn block(take: &[i32], b: usize) -> &[i32]
+    requires { ⌜ b < blockCount (length (now take)) ⌝ }
+    ensures { λ r. ⌜ now r ≡ blockOf (now (take .entry)) b ⌝ }
+{
+    let from = 64 * b;
+    if take.len() - from < 64 {
+        return &take[from..];
+    }
+    &take[from..from + 64]
+}
+
+// The least value.
+fn least_value(values: &[i32]) -> i32
+    requires { ⌜ 0 < length (now values) ⌝ }
+    ensures { λ r. ⌜ r ≡ leastFrom (now (values .entry)) 0 .value ⌝ }
+{
+    let mut least = values[0];
+    let mut k = 1;
+    while k < values.len() {
+        let v = values[k];
+        if v < least {
+            least = v;
+        }
+        k += 1;
+    }
+    least
+}
+
+// The place of the least value, where that is `v`. If it is not, an offset all the same.
+fn place_of(values: &[i32], v: i32) -> Offset
+    requires { ⌜ 0 < length (now values) ⌝ }
+    ensures { λ r. ⌜ LastPlace (now (values .entry)) v r ⌝ }
+{
+    let mut k = values.len() - 1;
+    while 0 < k {
+        if values[k] == v {
+            return Offset(k);
+        }
+        k -= 1;
+    }
+    Offset(k)
+}
+
+// The least value of a slice, and its place in the slice.
+fn least(values: &[i32]) -> Found
+    requires { ⌜ 0 < length (now values) ⌝ }
+    ensures { λ r. ⌜ (r ≡ leastFrom (now (values .entry)) 0) × (r .place .0 < length (now (values .entry))) ⌝ }
+{
+    let value = least_value(values);
+    let place = place_of(values, value);
+    Found { value, place }
+}
+
+// The least of the part of a take inside an edge block, from `a` to before `e`: the place in the part, and `a`.
+fn least_of_edge(take: &[i32], a: usize, e: usize) -> Found
+    requires { ⌜ (a < e) × (e ≤ length (now take)) ⌝ }
+    ensures { λ r. ⌜ r ≡ leastFrom (front e (now (take .entry))) a ⌝ }
+{
+    let found = least(&take[a..e]);
+    let place = found.place;
+    Found {
+        value: found.value,
+        place: Offset(a + place.0),
+    }
+}
+
+// Whether a later value takes over from the least before it: the choice among equal values.
+fn takes_over(later: i32, least: i32) -> bool
+    ensures { λ r. ⌜ r ≡ takesOver later least ⌝ }
+{
+    later <= least
+}
+
+// The lower of the least of one range and that of a later one.
+fn lower(earlier: Found, later: Found) -> Found
+    ensures { λ r. ⌜ r ≡ lowerOf earlier later ⌝ }
+{
+    if takes_over(later.value, earlier.value) {
+        return later;
+    }
+    earlier
+}
+
+// The least of the blocks from `first` to before `end`, all of which are wholly inside a range: its value and its block come from the index, its place in that block from the take.
+fn least_of_blocks(take: &[i32], index: &[i32], first: usize, end: usize) -> Found
+    requires { ⌜ (first < end) × (end ≤ length (now index)) × (length (now index) ≡ blockCount (length (now take))) ⌝ }
+    ensures { λ r. ⌜ OfBlocks (now (take .entry)) (now (index .entry)) first end r ⌝ }
+{
+    let entry = least(&index[first..end]);
+    let value = entry.value;
+    let within = entry.place;
+    let b = first + within.0;
+    let place = place_of(block(take, b), value);
+    Found {
+        value,
+        place: Offset(64 * b + place.0),
+    }
+}
+
+// What is found from `a` on, and the edge block's part from `i` to before it, if there is one.
+fn with_left_edge(take: &[i32], i: usize, a: usize, found: Found) -> Found
+    requires { ⌜ (i ≤ a) × (a ≤ length (now take)) ⌝ }
+    ensures { λ r. ⌜ r ≡ withLeft (now (take .entry)) i a found ⌝ }
+{
+    if i < a {
+        return lower(least_of_edge(take, i, a), found);
+    }
+    found
+}
+
+// What is found before `a`, and the edge block's part from there to before `e`, if there is one.
+fn with_right_edge(take: &[i32], a: usize, e: usize, found: Found) -> Found
+    requires { ⌜ e ≤ length (now take) ⌝ }
+    ensures { λ r. ⌜ r ≡ withRight (now (take .entry)) a e found ⌝ }
+{
+    if a < e {
+        return lower(found, least_of_edge(take, a, e));
+    }
+    found
+}
+
+// The block behind the last one that ends at `e` or before it: the last block ends where the take does, though it may be shorter.
+fn blocks_before(n: usize, e: usize) -> usize
+    requires { ⌜ e ≤ n ⌝ }
+    ensures { λ r. ⌜ r ≡ blocksBefore n e ⌝ }
+{
+    if e == n {
+        return block_count(n);
+    }
+    e / 64
+}
+
+// The least of the range from `i` to before `e`. Where no block is wholly inside, all of it lies in edge blocks.
+fn least_within(take: &[i32], index: &[i32], i: usize, e: usize) -> Found
+    requires { ⌜ (i < e) × (e ≤ length (now take)) × (length (now index) ≡ blockCount (length (now take))) ⌝ }
+    ensures { λ r. ⌜ Covers (now (take .entry)) (now (index .entry)) i e r ⌝ }
+{
+    let first = block_count(i);
+    let end = blocks_before(take.len(), e);
+    if end <= first {
+        return least_of_edge(take, i, e);
+    }
+    let found = least_of_blocks(take, index, first, end);
+    let from = with_left_edge(take, i, 64 * first, found);
+    if e == take.len() {
+        return from;
+    }
+    with_right_edge(take, 64 * end, e, from)
+}
+
+// Writes the index of a take: an entry for each block.
+pub fn build(take: &[i32], index: &mut [i32]) -> Reply
+    ensures { λ r. ⌜ Builds (now (take .entry)) (now (index .entry)) (now (index .exit)) r ⌝ }
+{
+    let blocks = block_count(take.len());
+    if index.len() != blocks {
+        return Reply::Refused(Refusal::OtherIndexLength);
+    }
+    let mut b = 0;
+    while b < blocks {
+        index[b] = least_value(block(take, b));
+        b += 1;
+    }
+    Reply::Accepted
+}
+
+// The least value from `i` to `j`, both with it, and its place in the take.
+pub fn search(take: &[i32], index: &[i32], i: usize, j: usize) -> Reply
+    ensures { λ r. ⌜ Searches (now (take .entry)) (now (index .entry)) i j r ⌝ }
+{
+    if index.len() != block_count(take.len()) {
+        return Reply::Refused(Refusal::OtherIndexLength);
+    }
+    if j < i {
+        return Reply::Refused(Refusal::RangeOutOfTake);
+    }
+    if take.len() <= j {
+        return Reply::Refused(Refusal::RangeOutOfTake);
+    }
+    Reply::Lowest(least_within(take, index, i, j + 1))
+}
+
+// The stretch from `i` to `j`, both with it, as a part of the caller's own take. It is empty where a search of that range is refused with 14.
+pub fn stretch(take: &[i32], i: usize, j: usize) -> &[i32]
+    ensures { λ r. ⌜ now r ≡ stretchOf (now (take .entry)) i j ⌝ }
+{
+    if j < i {
+        return &take[..0];
+    }
+    if take.len() <= j {
+        return &take[..0];
+    }
+    &take[i..j + 1]
+}
