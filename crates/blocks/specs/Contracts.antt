@@ -16,10 +16,14 @@ pub record Builds (values before after : List ℤ) (r : Reply) : Type 0 where
   pub tells : told r ≡ numbered (buildRefusal (length values) (length before))
   pub writes : after ≡ cond (eqb (length before) (blockCount (length values))) (indexOf values) before
 
--- the number is determined, whatever the index holds, and so is that an accepted search shows a value and a place. Which, is the definition's over an index built from that take; over any
--- other "the value and place shown are its own choice". Every choice has in common that the place is one of the range
+-- what a search may show, of a range that is not refused. Over an index built from that take it is the definition's; "otherwise .. the value and place shown are its own choice". Every choice
+-- has in common that the place is one of the range
+pub record Choice (values index : List ℤ) (i j : ℕ) (f : Found) : Type 0 where
+  pub inside : searchRefusal (length values) (length index) i j ≡ 0 → (i ≤ f .place .0) × (f .place .0 ≤ j)
+  pub right : index ≡ indexOf values → f ≡ leastOf values i j
+
+-- the number is determined, whatever the index holds; so is that a refusal shows nothing, and that an accepted search shows a value and a place
 pub record Searches (values index : List ℤ) (i j : ℕ) (r : Reply) : Type 0 where
   pub shows : Found
+  pub choice : Choice values index i j shows
   pub tells : told r ≡ answering (searchRefusal (length values) (length index) i j) shows
-  pub inside : searchRefusal (length values) (length index) i j ≡ 0 → (i ≤ shows .place .0) × (shows .place .0 ≤ j)
-  pub right : index ≡ indexOf values → shows ≡ leastOf values i j

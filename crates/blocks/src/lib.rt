@@ -52,7 +52,7 @@ fn least_value(values: &[i32]) -> i32
     ensures { λ r. ⌜ r ≡ leastFrom (now (values .entry)) 0 .value ⌝ }
 {
     let mut least = values[0];
-    let mut k = 1;
+    let mut k = 0;
     while k < values.len() {
         let v = values[k];
         if v < least {
