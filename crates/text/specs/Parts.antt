@@ -2,6 +2,7 @@
 use mathlib.Core.List.{List, [], _∷_, _++_}
 use mathlib.Core.Option.{Option, none, some}
 use Prim.Native.Nat.{ℕ}
+use lib.IntN.{ℤ}
 use Rattle.history.specs.declared.Minimum.{Minimum}
 use Rattle.history.specs.Replies.{Told}
 use Rattle.text.specs.Writing.{decimalOf, signedText}
@@ -13,9 +14,13 @@ spaced text = 32 ∷ text
 abbrev pub newline : List ℕ
 newline = 10 ∷ []
 
+-- a value, behind a space
+abbrev pub valueText : ℤ → List ℕ
+valueText v = spaced (signedText v)
+
 -- "after an accepted Query the value and place"
 abbrev pub minimumText : Minimum → List ℕ
-minimumText m = spaced (signedText (m .value)) ++ spaced (decimalOf (m .place .0))
+minimumText m = valueText (m .value) ++ spaced (decimalOf (m .place .0))
 
 abbrev pub shownText : Option Minimum → List ℕ
 shownText none = []
