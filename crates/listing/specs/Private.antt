@@ -1,0 +1,61 @@
+-- The contracts of the private functions.
+use mathlib.Core.Path.{_≡_}
+use mathlib.Core.Bool.{true, false}
+use mathlib.Core.List.{List}
+use mathlib.Core.Option.{Option, none, some}
+use Prim.Native.Nat.{ℕ, _+_, _≤_}
+use lib.IntN.{ℤ}
+use lib.ListN.{length, take}
+use Rattle.io.specs.Counts.{Counts}
+use Rattle.blocks.specs.declared.Found.{Found}
+use Rattle.text.specs.Writing.{Adds}
+use Rattle.listing.specs.declared.Request.{Request}
+use Rattle.listing.specs.declared.Heading.{Heading}
+use Rattle.listing.specs.declared.Reading.{Reading}
+use Rattle.listing.specs.declared.Progress.{Progress}
+use Rattle.listing.specs.Input.{countOf, takeOf, entriesOf, startOf, noTake, requestsBehind}
+use Rattle.listing.specs.Output.{filledOf, built, builtOf, indexAfter, requestLine, requestLines, printed}
+use Rattle.listing.specs.Choices.{Allowed, AllAllowed}
+
+-- `heading`: whether there is a take, how many values it has and how many entries its index has
+abbrev pub Heads : List ℕ → Heading → Type 0
+Heads bytes (Heading.Take n m) =
+    (noTake bytes ≡ false) × (n ≡ countOf bytes) × (m ≡ entriesOf bytes) × (n ≤ 8192) × (m ≤ 256) × (startOf bytes ≤ length bytes)
+Heads bytes Heading.Nothing = noTake bytes ≡ true
+
+-- `request_at`: the request that is read, if there is one
+abbrev pub readAs : Reading → Option Request
+readAs (Reading.Next r) = some r
+readAs Reading.Nothing = none
+
+-- `perform`: one request over a take and the index `before`, which it leaves as `after`, with the line of the n-th
+pub record Performs (values before after : List ℤ) (n : ℕ) (request : Request) (out : List ℕ) (used : ℕ) (written : List ℕ) (r : ℕ) : Type 0 where
+  pub found : Found
+  pub allowed : Allowed values before request found
+  pub alters : after ≡ indexAfter before request
+  pub prints : Adds out used (requestLine values before n request found) written r
+  pub fits : r ≤ used + 59
+
+-- `follow`: every request from the offset `start` on, in turn, from the index `before`, with the lines of all
+pub record Follows (values before : List ℤ) (bytes : List ℕ) (start : ℕ) (out : List ℕ) (used : ℕ) (written : List ℕ) (r : Progress) : Type 0 where
+  pub found : List Found
+  pub allowed : AllAllowed values before (requestsBehind start bytes) found
+  pub read : r .read ≡ length (requestsBehind start bytes)
+  pub prints : Adds out used (requestLines values before 1 (requestsBehind start bytes) found) written (r .used)
+  pub fits : r .used ≤ used + 297360
+
+-- `run`: a take that is the input's, and an index as it is before building
+pub record Holds (bytes : List ℕ) (start : ℕ) (values index : List ℤ) : Type 0 where
+  pub some : noTake bytes ≡ false
+  pub begins : start ≡ startOf bytes
+  pub within : start ≤ length bytes
+  pub values : values ≡ takeOf bytes
+  pub index : index ≡ filledOf bytes
+  pub few : length index ≤ 256
+
+-- and all that is printed of them
+pub record Runs (bytes written : List ℕ) (r : ℕ) : Type 0 where
+  pub found : List Found
+  pub allowed : AllAllowed (takeOf bytes) (builtOf bytes) (requestsBehind (startOf bytes) bytes) found
+  pub says : take r written ≡ printed found bytes
+  pub counts : Counts r written
