@@ -3,4 +3,3 @@ pub mod Input
 pub mod Output
 pub mod Choices
 pub mod Private
-pub mod Examples

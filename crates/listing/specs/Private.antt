@@ -13,11 +13,11 @@ use Rattle.listing.specs.declared.Request.{Request}
 use Rattle.listing.specs.declared.Heading.{Heading}
 use Rattle.listing.specs.declared.Reading.{Reading}
 use Rattle.listing.specs.declared.Progress.{Progress}
-use Rattle.listing.specs.Input.{countOf, takeOf, entriesOf, startOf, noTake, requestsBehind}
-use Rattle.listing.specs.Output.{filledOf, built, builtOf, indexAfter, requestLine, requestLines, printed}
+use Rattle.listing.specs.Input.{countOf, takeOf, entriesOf, startOf, noTake, requestsBehind, requestsOf}
+use Rattle.listing.specs.Output.{filledOf, builtOf, indexAfter, requestLine, requestLines, printedOf}
 use Rattle.listing.specs.Choices.{Allowed, AllAllowed}
 
--- `heading`: whether there is a take, how many values it has and how many entries its index has
+-- `read_heading`: whether there is a take, how many values it has and how many entries its index has
 abbrev pub Heads : List ℕ → Heading → Type 0
 Heads bytes (Heading.Take n m) =
     (noTake bytes ≡ false) × (n ≡ countOf bytes) × (m ≡ entriesOf bytes) × (n ≤ 8192) × (m ≤ 256) × (startOf bytes ≤ length bytes)
@@ -44,18 +44,18 @@ pub record Follows (values before : List ℤ) (bytes : List ℕ) (start : ℕ) (
   pub prints : Adds out used (requestLines values before 1 (requestsBehind start bytes) found) written (r .used)
   pub fits : r .used ≤ used + 297360
 
--- `run`: a take that is the input's, and an index as it is before building
+-- what `run` needs: a take that is the input's, and an index as it is before building
 pub record Holds (bytes : List ℕ) (start : ℕ) (values index : List ℤ) : Type 0 where
   pub some : noTake bytes ≡ false
   pub begins : start ≡ startOf bytes
   pub within : start ≤ length bytes
-  pub values : values ≡ takeOf bytes
-  pub index : index ≡ filledOf bytes
+  pub taken : values ≡ takeOf bytes
+  pub filled : index ≡ filledOf bytes
   pub few : length index ≤ 256
 
--- and all that is printed of them
-pub record Runs (bytes written : List ℕ) (r : ℕ) : Type 0 where
+-- `run` and `play`: all that is printed of bytes that are all read
+pub record Plays (bytes written : List ℕ) (r : ℕ) : Type 0 where
   pub found : List Found
-  pub allowed : AllAllowed (takeOf bytes) (builtOf bytes) (requestsBehind (startOf bytes) bytes) found
-  pub says : take r written ≡ printed found bytes
+  pub allowed : AllAllowed (takeOf bytes) (builtOf bytes) (requestsOf bytes) found
+  pub says : take r written ≡ printedOf found bytes
   pub counts : Counts r written

@@ -7,7 +7,7 @@ ghost use lib.ListN.{length, take};
 ghost use Rattle.io.specs.Counts.{Counts};
 ghost use Rattle.listing.specs.Input.{requestAt};
 ghost use Rattle.listing.specs.Choices.{Prints};
-ghost use Rattle.listing.specs.Private.{Heads, readAs, Performs, Follows, Holds, Runs};
+ghost use Rattle.listing.specs.Private.{Heads, readAs, Performs, Follows, Holds, Plays};
 use numbers::number_at;
 
 // What is asked of a take: its least value over a range, a stretch of it, or another number in its index.
@@ -36,7 +36,7 @@ struct Progress {
 }
 
 // There is no take of more than 8,192 values, with more than 256 entries, or whose requests would begin behind the bytes' end.
-fn heading(bytes: &[u8]) -> Heading
+fn read_heading(bytes: &[u8]) -> Heading
     ensures { λ r. ⌜ Heads (now (bytes .entry)) r ⌝ }
 {
     if bytes.len() < 8 {
@@ -138,7 +138,7 @@ fn follow(
 // A take and its index, from building to the last line.
 fn run(bytes: &[u8], start: usize, take: &[i32], index: &mut [i32], out: &mut [u8]) -> usize
     requires { ⌜ Holds (now bytes) start (now take) (now index) × (length (now bytes) ≤ start + 65528) × (300532 ≤ length (now out)) ⌝ }
-    ensures { λ r. ⌜ Runs (now (bytes .entry)) (now (out .exit)) r ⌝ }
+    ensures { λ r. ⌜ Plays (now (bytes .entry)) (now (out .exit)) r ⌝ }
 {
     let built = lines::build(out, 0, blocks::build(take, index));
     let listed = lines::index(out, built, index);
@@ -151,8 +151,9 @@ fn run(bytes: &[u8], start: usize, take: &[i32], index: &mut [i32], out: &mut [u
 // All that is printed of bytes that are all read.
 fn play(bytes: &[u8], out: &mut [u8]) -> usize
     requires { ⌜ (length (now bytes) ≤ 65536) × (300532 ≤ length (now out)) ⌝ }
+    ensures { λ r. ⌜ Plays (now (bytes .entry)) (now (out .exit)) r ⌝ }
 {
-    let headed = heading(bytes);
+    let headed = read_heading(bytes);
     let Heading::Take { values, entries } = headed else {
         return lines::no_take(out, 0);
     };
