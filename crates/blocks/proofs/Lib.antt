@@ -1,0 +1,4 @@
+pub mod Founds
+pub mod Refusals
+pub mod Scanning
+pub mod Indexes
