@@ -38,7 +38,7 @@ joined vs a b e l m s =
     let n : length (take b vs) ≡ b = length-take-le b vs (omega arith) in
     let both = minimum-append (take b vs) (take (e - b) (drop b vs)) (record { 0 = a + 1 }) (omega arith) (omega arith) (part-some vs b e m s) in
     let q : minimum (take e vs) (record { 0 = a + 1 }) ≡ lower (minimum (take b vs) (record { 0 = a + 1 })) (minimum (take e vs) (record { 0 = b + 1 })) =
-        rw (n, ← front-split vs b e (omega arith)) at both in
+    rw (n, ← front-split vs b e (omega arith)) at both in
     ap fromZero q ∙ fromZero-lower (minimum (take b vs) (record { 0 = a + 1 })) (minimum (take e vs) (record { 0 = b + 1 }))
 
 -- what is found in a part that starts at a, as it is counted in the whole

@@ -1,12 +1,12 @@
 -- The index of a take: how many entries it has, which each is, and that the least of some blocks stands in the block whose entry is the least of theirs.
 use mathlib.Core.Path.{_≡_, refl, sym, ap, _∙_}
 use mathlib.Core.Bool.{Bool, true, false, cond}
-use mathlib.Core.List.{List, _∷_}
+use mathlib.Core.List.{List, [], _∷_, _++_}
 use Prim.Native.Nat.{ℕ, zero, suc, _+_, _*_, _-_, _<_, _≤_}
 use native.Mathlib.Omega.{arith}
 use lib.IntN.{ℤ, pos}
-use lib.ListN.{length, getD, take, drop}
-use lib.Seq.{length-take-le, getD-take}
+use lib.ListN.{length, getD, set, take}
+use lib.Seq.{take-suc, take-suc-set, take-all, length-take-le, getD-take}
 use Rattle.history.specs.Minima.{takesOver, standsAt, minimum}
 use Rattle.history.proofs.Lowest.{minimum-new}
 use Rattle.blocks.specs.declared.Found.{Found}
@@ -36,6 +36,20 @@ pub entry : (values : List ℤ) (b : ℕ) → b < blockCount (length values) →
 entry values b h =
     let q : 0 + b ≡ b = omega arith in
     entry-of (blockCount (length values)) 0 values b h ∙ ap (λ (x : ℕ). leastFrom (blockOf values x) 0 .value) q
+
+-- the first entries of an index that is being written: one more, and all
+pub built-more : (values w : List ℤ) (b : ℕ) (v : ℤ) → b < length w → b < blockCount (length values) → v ≡ leastFrom (blockOf values b) 0 .value
+    → take b w ≡ take b (indexOf values) → take (b + 1) (set w b v) ≡ take (b + 1) (indexOf values)
+built-more values w b v l h e q =
+    let one : b + 1 ≡ suc b = omega arith in
+    rw one
+    (take-suc-set w b v l
+    ∙ ap (λ (xs : List ℤ). xs ++ (v ∷ [])) q
+    ∙ ap (λ (x : ℤ). take b (indexOf values) ++ (x ∷ [])) (e ∙ sym (entry values b h))
+    ∙ sym (take-suc (indexOf values) b (pos 0) (omega (arith, length-index values))))
+
+pub built-all : (values w : List ℤ) (b : ℕ) → blockCount (length values) ≤ b → length w ≤ b → take b w ≡ take b (indexOf values) → w ≡ indexOf values
+built-all values w b h l q = sym (take-all b w l) ∙ q ∙ take-all b (indexOf values) (omega (arith, length-index values))
 
 -- of one value, that value there
 pub one-value : (vs : List ℤ) (k : ℕ) → k < length vs → leastFrom (take (k + 1) vs) k ≡ record { value = getD vs k (pos 0); place = record { 0 = k } }
@@ -83,17 +97,17 @@ module _ (values : List ℤ) (first : ℕ) where
       let new : Found = record { value = e; place = record { 0 = end } } in
       let n : end < length index = omega (arith, length-index values) in
       let among : leastFrom (take (end + 1) index) first ≡ lowerOf f new =
-          joined index first end (end + 1) l (omega arith) n ∙ ap (lowerOf f) (one-value index end n) in
+      joined index first end (end + 1) l (omega arith) n ∙ ap (lowerOf f) (one-value index end n) in
       let within : leastFrom (take (64 * (end + 1)) values) (64 * first) ≡ lowerOf (inBlock values (f .place .0)) (inBlock values end) =
-          joined values (64 * first) (64 * end) (64 * (end + 1)) (omega arith) (omega arith) (omega arith)
-          ∙ ap (λ (x : Found). lowerOf x (leastFrom (take (64 * (end + 1)) values) (64 * end))) (r .whole)
-          ∙ ap (lowerOf (inBlock values (f .place .0))) (found-in-block values end (omega arith)) in
+      joined values (64 * first) (64 * end) (64 * (end + 1)) (omega arith) (omega arith) (omega arith)
+      ∙ ap (λ (x : Found). lowerOf x (leastFrom (take (64 * (end + 1)) values) (64 * end))) (r .whole)
+      ∙ ap (lowerOf (inBlock values (f .place .0))) (found-in-block values end (omega arith)) in
       let older : inBlock values (f .place .0) .value ≡ f .value = sym (ap (λ (x : Found). x .value) (r .whole)) ∙ r .value in
       let newer : inBlock values end .value ≡ e = sym (entry values end h) in
       let same : takesOver (inBlock values end .value) (inBlock values (f .place .0) .value) ≡ takesOver e (f .value) =
-          ap (λ (v : ℤ). takesOver v (inBlock values (f .place .0) .value)) newer ∙ ap (takesOver e) older in
+      ap (λ (v : ℤ). takesOver v (inBlock values (f .place .0) .value)) newer ∙ ap (takesOver e) older in
       let placed : lowerOf (inBlock values (f .place .0)) (inBlock values end) ≡ cond (takesOver e (f .value)) (inBlock values end) (inBlock values (f .place .0)) =
-          ap (λ (t : Bool). cond t (inBlock values end) (inBlock values (f .place .0))) same in
+      ap (λ (t : Bool). cond t (inBlock values end) (inBlock values (f .place .0))) same in
       record {
         value = ap (λ (x : Found). x .value) (within ∙ placed) ∙ value-chosen (takesOver e (f .value)) new f newer older ∙ sym (ap (λ (x : Found). x .value) among);
         whole = within ∙ placed ∙ block-chosen (takesOver e (f .value)) new f ∙ sym (ap (λ (x : Found). inBlock values (x .place .0)) among);

@@ -51,7 +51,7 @@ so-far-more vs (suc k) m h e =
     let d : Minimum = minimum (take (suc k) vs) first in
     let n = length-take-le (suc k) vs (omega arith) in
     let more : minimum (take (suc (suc k)) vs) first ≡ lower d (standsAt v (next (presentAt (take (suc k) vs)))) =
-        rw (take-suc vs (suc k) (pos 0) h) (minimum-more (take (suc k) vs) v first (omega arith) (omega (arith, n))) in
+    rw (take-suc vs (suc k) (pos 0) h) (minimum-more (take (suc k) vs) v first (omega arith) (omega (arith, n))) in
     let q : m ≡ d .value = rw now at e in
     rw (later, q)
     (sym (ap (λ (x : Minimum). x .value) more ∙ value-of (takesOver v (d .value)) d (standsAt v (next (presentAt (take (suc k) vs))))))

@@ -52,7 +52,7 @@ loop-again c =
     let k = l .loop .k in
     let same : toZ w32 (ofZ w32 (getD vs k (pos 0))) ≡ getD vs k (pos 0) = toZ-ofZ (sfits-of (c .before .before .v .given)) in
     let more : Least-so-far vs (k + 1) (cond (takesOver (getD vs k (pos 0)) (toZ w32 (l .loop .least))) (getD vs k (pos 0)) (toZ w32 (l .loop .least))) =
-        so-far-more vs k (toZ w32 (l .loop .least)) (omega arith) (l .loop .inv .1) in
+    so-far-more vs k (toZ w32 (l .loop .least)) (omega arith) (l .loop .inv .1) in
     let asked : takesOver (getD vs k (pos 0)) (toZ w32 (l .loop .least)) ≡ c .before .takes-over .result = rw same at (sym (c .before .takes-over .ensures)) in (
       omega arith,
       ⊎-elim (λ w. rw (w .1, same) (rw (asked ∙ w .0 .taken) at more)) (λ w. rw (w .1) (rw (asked ∙ w .0 .left) at more)) (c .if1 .came),

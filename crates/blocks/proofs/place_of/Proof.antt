@@ -61,10 +61,10 @@ loop-again c =
     let v = toZ-ofZ (l .before .fits .v) in (
       omega arith,
       λ e.
-        let before = l .loop .inv .1 e in
-        let other : leastFrom vs 0 .place .0 ≡ l .loop .k → ⊥ =
-            λ q. c .if1 .left (ap (ofZ w32) (ap (λ (k : ℕ). getD vs k (pos 0)) (sym q) ∙ stands vs (l .before .pre) ∙ sym e ∙ v)) in
-        omega (arith, other),
+          let before = l .loop .inv .1 e in
+          let other : leastFrom vs 0 .place .0 ≡ l .loop .k → ⊥ =
+          λ q. c .if1 .left (ap (ofZ w32) (ap (λ (k : ℕ). getD vs k (pos 0)) (sym q) ∙ stands vs (l .before .pre) ∙ sym e ∙ v)) in
+          omega (arith, other),
     )
 
 returns-2 : tie.Need-returns-2 Inv-loop μ-loop
