@@ -1,8 +1,14 @@
 -- `listing::lines::ends` meets its contract: of no values nothing is written; else the texts of the first and of the last are put one after the other.
 use borrow.Author.Needs.{needs, sfits-of}
 use borrow.Author.Tests.{eq-eqb, ne-eqb}
+use mathlib.Core.Path.{_≡_}
+use mathlib.Core.List.{List}
+use Prim.Native.Nat.{_-_}
 use native.Mathlib.Omega.{arith}
-use lib.ListN.{length}
+use lib.IntN.{ℤ, pos}
+use lib.ListN.{length, getD}
+use mir.Syntax.{w32}
+use mir.Val.{toZ, ofZ}
 use mir.Facts.{toZ-ofZ}
 use Rattle.text.proofs.Texts.{nothing, then}
 use Rattle.listing.proofs.lines.ends.Statement.{statement}
@@ -39,9 +45,11 @@ returns-2 c =
     let e = c .before .before in
     let f = e .before .before .before .before .before in
     let i = f .before .before .before in
-    let s = i .before .before in (
-      simp (ne-eqb (length (s .args .part .now)) 0 (i .if1 .left))
-          (then (simp (toZ-ofZ, sfits-of (f .before .put-value-arg2 .given)) at (f .put-value .ensures .0)) (simp (toZ-ofZ, sfits-of (e .before .put-value-arg4 .given)) at (e .put-value2 .ensures .0))),
+    let s = i .before .before in
+    let part : List ℤ = s .args .part .now in
+    let first : toZ w32 (ofZ w32 (getD part 0 (pos 0))) ≡ getD part 0 (pos 0) = toZ-ofZ (sfits-of (f .before .put-value-arg2 .given)) in
+    let last : toZ w32 (ofZ w32 (getD part (length part - 1) (pos 0))) ≡ getD part (length part - 1) (pos 0) = toZ-ofZ (sfits-of (e .before .put-value-arg4 .given)) in (
+      simp (ne-eqb (length part) 0 (i .if1 .left)) (then (rw first at (f .put-value .ensures .0)) (rw last at (e .put-value2 .ensures .0))),
       omega (arith, f .put-value .ensures .1, e .put-value2 .ensures .1),
     )
 

@@ -1,10 +1,13 @@
 -- `listing::lines::index` meets its contract. The loop's invariant: behind the word stand the first i entries, each of which has no more than twelve bytes. The measure is how many
 -- entries are left.
 use borrow.Author.Needs.{needs, sfits-of}
-use mathlib.Core.Path.{_∙_}
+use mathlib.Core.Path.{_≡_, _∙_}
 use Prim.Native.Nat.{_+_, _*_, _-_, _≤_}
 use native.Mathlib.Omega.{arith}
-use lib.ListN.{length, take}
+use lib.IntN.{ℤ, pos}
+use lib.ListN.{length, getD, take}
+use mir.Syntax.{w32}
+use mir.Val.{toZ, ofZ}
 use mir.Facts.{toZ-ofZ}
 use Rattle.text.specs.Writing.{Adds}
 use Rattle.text.proofs.Texts.{nothing, then}
@@ -53,10 +56,12 @@ loop-again : tie.Need-loop-again Inv-loop μ-loop
 loop-again c =
     let v = c .before .before in
     let l = v .before .before .before .before in
-    let s = l .before .before .before .before .before .before .before in (
+    let s = l .before .before .before .before .before .before .before in
+    let entry : ℤ = getD (s .args .entries .now) (l .loop .i) (pos 0) in
+    let same : toZ w32 (ofZ w32 entry) ≡ entry = toZ-ofZ (sfits-of (v .before .put-value-arg2 .given)) in (
       omega (arith, v .before .before .before .loop-test .taken),
       rw (values-next (s .args .entries .now) (l .loop .i) (omega (arith, v .before .before .before .loop-test .taken)))
-          (then (l .loop .inv .1) (simp (toZ-ofZ, sfits-of (v .before .put-value-arg2 .given)) at (v .put-value .ensures .0))),
+          (then (l .loop .inv .1) (rw same at (v .put-value .ensures .0))),
       omega (arith, l .loop .inv .2, v .put-value .ensures .1),
     )
 
