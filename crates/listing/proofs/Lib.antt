@@ -1,3 +1,4 @@
 pub mod Texts
 pub mod Readings
 pub mod Requests
+pub mod Whole

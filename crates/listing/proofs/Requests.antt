@@ -176,6 +176,7 @@ reached-end {values} {before} {bytes = bytes} {at = at} u few e =
       found = u .found;
       allowed = rw all at (u .allowed);
       read = u .count ∙ ap length all;
+      within = omega (arith, u .place, u .within);
       prints = rw all at (u .prints);
       fits = omega (arith, u .fits, u .place, u .within);
     }

@@ -3,7 +3,7 @@ use mathlib.Core.Path.{_≡_}
 use mathlib.Core.Bool.{true, false}
 use mathlib.Core.List.{List}
 use mathlib.Core.Option.{Option, none, some}
-use Prim.Native.Nat.{ℕ, _+_, _≤_}
+use Prim.Native.Nat.{ℕ, _+_, _*_, _≤_}
 use lib.IntN.{ℤ}
 use lib.ListN.{length, take}
 use Rattle.io.specs.Counts.{Counts}
@@ -17,10 +17,18 @@ use Rattle.listing.specs.Input.{countOf, takeOf, entriesOf, startOf, noT
 use Rattle.listing.specs.Output.{filledOf, builtOf, indexAfter, requestLine, requestLines, printedOf}
 use Rattle.listing.specs.Choices.{Allowed, AllAllowed}
 
--- `read_heading`: whether there is a take, how many values it has and how many entries its index has
+-- a take of n values, with an index of m entries
+pub record Headed (bytes : List ℕ) (n m : ℕ) : Type 0 where
+  pub some : noTake bytes ≡ false
+  pub values : n ≡ countOf bytes
+  pub entries : m ≡ entriesOf bytes
+  pub most : n ≤ 8192
+  pub few : m ≤ 256
+  pub within : startOf bytes ≤ length bytes
+
+-- `read_heading`: such a take, or none
 abbrev pub Heads : List ℕ → Heading → Type 0
-Heads bytes (Heading.Take n m) =
-    (noTake bytes ≡ false) × (n ≡ countOf bytes) × (m ≡ entriesOf bytes) × (n ≤ 8192) × (m ≤ 256) × (startOf bytes ≤ length bytes)
+Heads bytes (Heading.Take n m) = Headed bytes n m
 Heads bytes Heading.Nothing = noTake bytes ≡ true
 
 -- `request_at`: the request that is read, if there is one
@@ -41,6 +49,7 @@ pub record Follows (values before : List ℤ) (bytes : List ℕ) (start : ℕ) (
   pub found : List Found
   pub allowed : AllAllowed values before (requestsBehind start bytes) found
   pub read : r .read ≡ length (requestsBehind start bytes)
+  pub within : start + 13 * r .read ≤ length bytes
   pub prints : Adds out used (requestLines values before 1 (requestsBehind start bytes) found) written (r .used)
   pub fits : r .used ≤ used + 297360
 
@@ -53,7 +62,7 @@ pub record Holds (bytes : List ℕ) (start : ℕ) (values index : List ℤ) : Ty
   pub filled : index ≡ filledOf bytes
   pub few : length index ≤ 256
 
--- `run` and `play`: all that is printed of bytes that are all read
+-- `run`, `load` and `play`: all that is printed of bytes that are all read
 pub record Plays (bytes written : List ℕ) (r : ℕ) : Type 0 where
   pub found : List Found
   pub allowed : AllAllowed (takeOf bytes) (builtOf bytes) (requestsOf bytes) found

@@ -7,7 +7,7 @@ ghost use lib.ListN.{length, take};
 ghost use Rattle.io.specs.Counts.{Counts};
 ghost use Rattle.listing.specs.Input.{requestAt};
 ghost use Rattle.listing.specs.Choices.{Prints};
-ghost use Rattle.listing.specs.Private.{Heads, readAs, Performs, Follows, Holds, Plays};
+ghost use Rattle.listing.specs.Private.{Headed, Heads, readAs, Performs, Follows, Holds, Plays};
 use numbers::number_at;
 
 // What is asked of a take: its least value over a range, a stretch of it, or another number in its index.
@@ -148,19 +148,33 @@ fn run(bytes: &[u8], start: usize, take: &[i32], index: &mut [i32], out: &mut [u
     lines::end(out, stopped, progress.read)
 }
 
+// A take of so many values, with an index of so many entries.
+fn load(bytes: &[u8], values: usize, entries: usize, out: &mut [u8]) -> usize
+    requires { ⌜ Headed (now bytes) values entries × (length (now bytes) ≤ 65536) × (300532 ≤ length (now out)) ⌝ }
+    ensures { λ r. ⌜ Plays (now (bytes .entry)) (now (out .exit)) r ⌝ }
+{
+    let mut take = [0i32; 8192];
+    numbers::read_values(bytes, 4, &mut take[..values]);
+    let mut index = [-1i32; 256];
+    run(
+        bytes,
+        8 + 4 * values,
+        &take[..values],
+        &mut index[..entries],
+        out,
+    )
+}
+
 // All that is printed of bytes that are all read.
 fn play(bytes: &[u8], out: &mut [u8]) -> usize
     requires { ⌜ (length (now bytes) ≤ 65536) × (300532 ≤ length (now out)) ⌝ }
     ensures { λ r. ⌜ Plays (now (bytes .entry)) (now (out .exit)) r ⌝ }
 {
     let headed = read_heading(bytes);
-    let Heading::Take { values, entries } = headed else {
-        return lines::no_take(out, 0);
-    };
-    let mut take = [0i32; 8192];
-    numbers::read_values(bytes, 4, &mut take[..values]);
-    let mut index = [-1i32; 256];
-    run(bytes, 8 + 4 * values, &take[..values], &mut index[..entries], out)
+    match headed {
+        Heading::Take { values, entries } => load(bytes, values, entries, out),
+        Heading::Nothing => lines::no_take(out, 0),
+    }
 }
 
 // Writes all that is printed of an input, of which no more than the first 65,536 bytes are read, and returns how many bytes that is: a number of bytes at the start of `out`, which is what

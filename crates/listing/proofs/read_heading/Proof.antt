@@ -57,7 +57,7 @@ returns-5 c =
     let values : n .number-at .result ≤ 8192 = omega (arith, c .before .before .before .if2 .left) in
     let few : c .before .number-at2 .result ≤ 256 = omega (arith, c .if4 .left) in
     let within : startOf (c .before .before .before .before .before .before .before .args .bytes .now) ≤ length (c .before .before .before .before .before .before .before .args .bytes .now) = omega (arith, c .before .before .if3 .left, n .number-at .ensures) in
-    (some-take (c .before .before .before .before .before .before .before .args .bytes .now) (omega (arith, n .number-at .ensures)) (omega (arith, m)) within, n .number-at .ensures, m, values, few, within)
+    record { some = some-take (c .before .before .before .before .before .before .before .args .bytes .now) (omega (arith, n .number-at .ensures)) (omega (arith, m)) within; values = n .number-at .ensures; entries = m; most = values; few = few; within = within }
 
 pub read-heading-spec : {M : Type 1} → statement M
 read-heading-spec =
