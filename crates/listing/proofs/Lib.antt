@@ -2,3 +2,4 @@ pub mod Texts
 pub mod Readings
 pub mod Requests
 pub mod Whole
+pub mod Determined

@@ -20,7 +20,7 @@ use Rattle.listing.specs.Output.{filledOf, builtOf, requestLines, readOf
 use Rattle.listing.specs.Choices.{Prints}
 use Rattle.listing.specs.Private.{Follows, Plays}
 
--- the first of so many −1s
+-- the first of equal values
 pub take-replicate : (m n : ℕ) (v : ℤ) → n ≤ m → take n (replicate m v) ≡ replicate n v
 take-replicate m zero v l = refl
 take-replicate zero (suc n) v l = absurd (omega arith)
