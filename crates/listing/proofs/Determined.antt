@@ -61,6 +61,6 @@ determined bytes text u p =
     let b : List ℕ = readOf bytes in
     p .says
     ∙ ap (λ (lines : List ℕ). cond (noTake b) noTakeLine
-        (buildLine (numbered (buildRefusal (length (takeOf b)) (length (filledOf b))))
-        ++ (indexLine (builtOf b) ++ (lines ++ (stopLines (leftOf b) (endOf b) ++ endLine (length (requestsOf b)))))))
+    (buildLine (numbered (buildRefusal (length (takeOf b)) (length (filledOf b))))
+    ++ (indexLine (builtOf b) ++ (lines ++ (stopLines (leftOf b) (endOf b) ++ endLine (length (requestsOf b)))))))
     (lines-determined (takeOf b) (builtOf b) 1 (requestsOf b) (p .found) (settled-built (takeOf b) (filledOf b)) u (p .allowed))

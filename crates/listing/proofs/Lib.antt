@@ -3,3 +3,4 @@ pub mod Readings
 pub mod Requests
 pub mod Whole
 pub mod Determined
+pub mod Examples

@@ -3,3 +3,4 @@ pub mod Input
 pub mod Output
 pub mod Choices
 pub mod Private
+pub mod Examples

@@ -96,8 +96,18 @@ fn perform(
     ensures { λ r. ⌜ Performs (now (take .entry)) (now (index .entry)) (now (index .exit)) n request (now (out .entry)) used (now (out .exit)) r ⌝ }
 {
     match request {
-        Request::Search { from, to } => lines::search(out, used, n, blocks::search(take, index, from, to)),
-        Request::Stretch { from, to } => lines::stretch(out, used, n, blocks::stretch(take, from, to)),
+        Request::Search { from, to } => lines::search(
+            out,
+            used,
+            n,
+            blocks::search(take, index, from, to),
+        ),
+        Request::Stretch { from, to } => lines::stretch(
+            out,
+            used,
+            n,
+            blocks::stretch(take, from, to),
+        ),
         Request::Set { entry, value } => {
             if entry < index.len() {
                 index[entry] = value;
