@@ -6,14 +6,13 @@ use native.Mathlib.Omega.{arith}
 use lib.IntN.{ℤ, pos, negsuc}
 use lib.ListN.{length}
 use Rattle.history.specs.Minima.{lowest}
-use Rattle.blocks.specs.declared.Found.{Found}
 use Rattle.blocks.specs.Takes.{entriesFrom}
 use Rattle.numbers.specs.FourBytes.{valuesFrom}
 use Rattle.text.specs.Writing.{digitsWithin}
 use Rattle.text.specs.Examples.{AllPrinted}
 use Rattle.listing.specs.Input.{requestsFrom}
 use Rattle.listing.specs.Output.{outputOf}
-use Rattle.listing.specs.Choices.{Prints, exactOutput}
+use Rattle.listing.specs.Choices.{unused, Prints, exactOutput}
 use Rattle.listing.specs.Examples.{examples, altered, alteredOutput}
 
 -- THE EXAMPLES, all of the list
@@ -34,9 +33,6 @@ either-printed = (
   printed (negsuc 2) 1 (omega arith) refl,
 )
   where
-    unused : Found
-    unused = record { value = pos 0; place = record { 0 = 0 } }
-
     -- the altered index is not the take's
     other : _≡_ {A = List ℤ} (pos 9 ∷ []) (negsuc 2 ∷ []) → ⊥
     other i = let z : _≡_ {A = ℕ} 0 1 = cc in omega arith

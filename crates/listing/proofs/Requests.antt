@@ -7,7 +7,7 @@ use Prim.Native.Nat.{ℕ, zero, suc, _+_, _*_, _≤_}
 use native.Mathlib.Nat.{add-zero}
 use native.Mathlib.Decide.{decLt}
 use native.Mathlib.Omega.{arith}
-use lib.IntN.{ℤ, pos}
+use lib.IntN.{ℤ}
 use lib.ListN.{length, set, length-append, length-set}
 use Rattle.blocks.specs.declared.Found.{Found}
 use Rattle.blocks.specs.declared.Reply.{Reply}
@@ -20,7 +20,7 @@ use Rattle.listing.specs.declared.Request.the-variants.{Search, Stretch,
 use Rattle.listing.specs.Lines.{searchLine, stretchLine, setLine}
 use Rattle.listing.specs.Input.{requestAt, requestsFrom, requestsBehind}
 use Rattle.listing.specs.Output.{indexAfter, requestLine, requestLines}
-use Rattle.listing.specs.Choices.{Allowed, AllAllowed}
+use Rattle.listing.specs.Choices.{unused, Allowed, AllAllowed}
 use Rattle.listing.specs.Private.{Performs, Follows}
 use Rattle.listing.proofs.Readings.{cut-off}
 
@@ -32,12 +32,12 @@ searched {n = n} e s a l = rw e (record { found = s .shows; allowed = s .choice;
 -- a stretch: nothing is found, so anything stands for it
 pub stretched : {values index part : List ℤ} {n i j used r : ℕ} {request : Request} {out written : List ℕ} → request ≡ Stretch i j → part ≡ stretchOf values i j
     → Adds out used (stretchLine n part) written r → r ≤ used + 59 → Performs values index index n request out used written r
-stretched {n = n} e s a l = rw e (record { found = record { value = pos 0; place = record { 0 = 0 } }; allowed = tt; alters = refl; prints = rw (ap (stretchLine n) s) at a; fits = omega arith })
+stretched {n = n} e s a l = rw e (record { found = unused; allowed = tt; alters = refl; prints = rw (ap (stretchLine n) s) at a; fits = omega arith })
 
 -- another entry
 pub entered : {values index after : List ℤ} {n a used r : ℕ} {v : ℤ} {request : Request} {out written : List ℕ} → request ≡ Set a v → after ≡ set index a v
     → Adds out used (setLine n) written r → r ≤ used + 10 → Performs values index after n request out used written r
-entered e s p l = rw e (record { found = record { value = pos 0; place = record { 0 = 0 } }; allowed = tt; alters = s; prints = p; fits = omega arith })
+entered e s p l = rw e (record { found = unused; allowed = tt; alters = s; prints = p; fits = omega arith })
 
 -- the index after all of some requests
 abbrev indexAfterAll : List ℤ → List Request → List ℤ

@@ -14,6 +14,10 @@ use Rattle.listing.specs.declared.Request.the-variants.{Search, Stretch,
 use Rattle.listing.specs.Input.{takeOf, requestsOf}
 use Rattle.listing.specs.Output.{builtOf, indexAfter, readOf, outputOf}
 
+-- what stands for a request that finds nothing, where something has to
+abbrev pub unused : Found
+unused = record { value = pos 0; place = record { 0 = 0 } }
+
 -- what may stand for a request in the list of what is found, over a take and the index as it then is. No request but a search finds anything
 abbrev pub Allowed : (values index : List ℤ) → Request → Found → Type 0
 Allowed values index (Search i j) f = Choice values index i j f
@@ -36,8 +40,8 @@ pub record Prints (bytes text : List ℕ) : Type 0 where
 -- what each search finds by the definition alone, whatever the index holds: "the least value from i to j with its latest place"
 abbrev pub leastFor : List ℤ → Request → Found
 leastFor values (Search i j) = leastOf values i j
-leastFor values (Stretch i j) = record { value = pos 0; place = record { 0 = 0 } }
-leastFor values (Set a v) = record { value = pos 0; place = record { 0 = 0 } }
+leastFor values (Stretch i j) = unused
+leastFor values (Set a v) = unused
 
 -- the whole output where each search finds that
 abbrev pub exactOutput : List ℕ → List ℕ

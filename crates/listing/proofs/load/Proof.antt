@@ -16,8 +16,9 @@ use Rattle.listing.proofs.load.Tie as tie
 -- what is read are the input's values, as many as there is room for
 read : (c : tie.After-read-values) → c .read-values .last .1 .1 .0 ≡ valuesFrom (c .before .before .before .before .args .values) 4 (c .before .before .before .before .args .bytes .now)
 read c =
-    let room : length {A = ℤ} (take (c .before .before .before .before .args .values) (replicate 8192 (pos 0))) ≡ c .before .before .before .before .args .values = simp (length-take, length-replicate) (omega (arith, c .before .before .before .before .pre .0 .most)) in
-    c .read-values .ensures ∙ ap (λ (n : ℕ). valuesFrom n 4 (c .before .before .before .before .args .bytes .now)) room
+    let s = c .before .before .before .before in
+    let room : length {A = ℤ} (take (s .args .values) (replicate 8192 (pos 0))) ≡ s .args .values = simp (length-take, length-replicate) (omega (arith, s .pre .0 .most)) in
+    c .read-values .ensures ∙ ap (λ (n : ℕ). valuesFrom n 4 (s .args .bytes .now)) room
 
 count : (c : tie.After-read-values) → length (c .read-values .last .1 .1 .0) ≡ c .before .before .before .before .args .values
 count c = ap length (read c) ∙ values-length (c .before .before .before .before .args .values) 4 (c .before .before .before .before .args .bytes .now)
@@ -29,7 +30,9 @@ slice-aggregate-read-values : tie.Need-slice-aggregate-read-values
 slice-aggregate-read-values c = simp (length-take, length-replicate) (omega (arith, c .before .before .before .pre .0 .most))
 
 read-values-requires : tie.Need-read-values-requires
-read-values-requires c κs = simp (length-take, length-replicate) (omega (arith, c .before .before .before .pre .0 .most, c .before .before .before .pre .0 .values, c .before .before .before .pre .0 .within))
+read-values-requires c κs =
+    let h = c .before .before .before .pre .0 in
+    simp (length-take, length-replicate) (omega (arith, h .most, h .values, h .within))
 
 mul-run : tie.Need-mul-run
 mul-run c = search needs
@@ -41,7 +44,9 @@ array-share-prefix-take : tie.Need-array-share-prefix-take
 array-share-prefix-take c = simp length-append (omega (arith, count (c .before)))
 
 slice-aggregate-run : tie.Need-slice-aggregate-run
-slice-aggregate-run c = sym (ap length (take-at (c .before .before .read-values .last .1 .1 .0) _ (c .before .before .before .before .before .before .args .values) (count (c .before .before))) ∙ count (c .before .before))
+slice-aggregate-run c =
+    let v = c .before .before in
+    sym (ap length (take-at (v .read-values .last .1 .1 .0) _ (v .before .before .before .before .args .values) (count v)) ∙ count v)
 
 array-borrow-prefix-index : tie.Need-array-borrow-prefix-index
 array-borrow-prefix-index c = search needs
@@ -55,7 +60,8 @@ run-requires c κs =
     let s = v .before .before .before .before in
     let h = s .pre .0 in
     let bytes : List ℕ = s .args .bytes .now in
-    let index : take (s .args .entries) (replicate 256 (negsuc 0)) ≡ replicate (s .args .entries) (negsuc 0) = take-replicate 256 (s .args .entries) (negsuc 0) (h .few) in (
+    let index : take (s .args .entries) (replicate 256 (negsuc 0)) ≡ replicate (s .args .entries) (negsuc 0) =
+    take-replicate 256 (s .args .entries) (negsuc 0) (h .few) in (
       record {
         some = h .some;
         begins = ap (λ (n : ℕ). 8 + 4 * n) (h .values);

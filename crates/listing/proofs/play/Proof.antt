@@ -1,6 +1,5 @@
 -- `listing::play` meets its contract: without a take there is one line, and else the take is loaded.
 use borrow.Author.Needs.{needs}
-use mathlib.Core.Path.{ap}
 use native.Mathlib.Omega.{arith}
 use Rattle.listing.proofs.Whole.{none-taken}
 use Rattle.listing.proofs.play.Statement.{statement}

@@ -1,6 +1,7 @@
--- `listing::read_heading` meets its contract: at each return the tests that led there are one of the reasons why there is no take, or show that there is none.
+-- `listing::read_heading` meets its contract: at each return the tests that led there are one of the reasons why there is no take, or show that none of them holds.
 use borrow.Author.Needs.{needs}
 use mathlib.Core.Path.{_≡_, ap, _∙_}
+use mathlib.Core.List.{List}
 use Prim.Native.Nat.{ℕ, _+_, _*_, _≤_}
 use native.Mathlib.Omega.{arith}
 use lib.ListN.{length}
@@ -12,7 +13,8 @@ use Rattle.listing.proofs.read_heading.Tie as tie
 
 -- the number behind the values is that of the entries
 entries : (c : tie.After-number-at2) → c .number-at2 .result ≡ entriesOf (c .before .before .before .before .before .before .args .bytes .now)
-entries c = c .number-at2 .ensures ∙ ap (λ (n : ℕ). numberAt (c .before .before .before .before .before .before .args .bytes .now) (4 + 4 * n)) (c .before .before .before .number-at .ensures)
+entries c =
+    c .number-at2 .ensures ∙ ap (λ (n : ℕ). numberAt (c .before .before .before .before .before .before .args .bytes .now) (4 + 4 * n)) (c .before .before .before .number-at .ensures)
 
 returns : tie.Need-returns
 returns c = few-bytes (c .before .before .args .bytes .now) (omega (arith, c .if1 .taken))
@@ -53,11 +55,19 @@ returns-4 c = many-entries (c .before .before .before .before .before .before .b
 returns-5 : tie.Need-returns-5
 returns-5 c =
     let n = c .before .before .before .before in
-    let m = entries (c .before) in
-    let values : n .number-at .result ≤ 8192 = omega (arith, c .before .before .before .if2 .left) in
-    let few : c .before .number-at2 .result ≤ 256 = omega (arith, c .if4 .left) in
-    let within : startOf (c .before .before .before .before .before .before .before .args .bytes .now) ≤ length (c .before .before .before .before .before .before .before .args .bytes .now) = omega (arith, c .before .before .if3 .left, n .number-at .ensures) in
-    record { some = some-take (c .before .before .before .before .before .before .before .args .bytes .now) (omega (arith, n .number-at .ensures)) (omega (arith, m)) within; values = n .number-at .ensures; entries = m; most = values; few = few; within = within }
+    let m = c .before in
+    let bytes : List ℕ = n .before .before .before .args .bytes .now in
+    let most : n .number-at .result ≤ 8192 = omega (arith, c .before .before .before .if2 .left) in
+    let few : m .number-at2 .result ≤ 256 = omega (arith, c .if4 .left) in
+    let within : startOf bytes ≤ length bytes = omega (arith, c .before .before .if3 .left, n .number-at .ensures) in
+    record {
+      some = some-take bytes (omega (arith, n .number-at .ensures)) (omega (arith, entries m)) within;
+      values = n .number-at .ensures;
+      entries = entries m;
+      most = most;
+      few = few;
+      within = within;
+    }
 
 pub read-heading-spec : {M : Type 1} → statement M
 read-heading-spec =
