@@ -5,7 +5,7 @@ ghost use denote.Ref.{ptr};
 ghost use Prim.Native.Nat.{_+_, _*_, _<_, _≤_};
 ghost use lib.ListN.{length, take as front};
 ghost use Rattle.history.specs.Minima.{takesOver};
-ghost use Rattle.blocks.specs.Takes.{minimumFrom, blockOf, blockCount};
+ghost use Rattle.blocks.specs.Takes.{minimumFrom, blockOf, blockCount, told};
 ghost use Rattle.blocks.specs.Contracts.{Builds, Searches, Stretches};
 ghost use Rattle.blocks.specs.Private.{LastPlace, lowerOf, OfBlocks, withLeft, withRight, blocksBefore, Covers};
 use history::Refusal;
@@ -23,6 +23,17 @@ pub enum Reply {
     Accepted,
     Lowest(Found),
     Refused(Refusal),
+}
+
+// The papers' number of a reply: 0 of an acceptance.
+pub fn reply_number(reply: Reply) -> u8
+    ensures { λ r. ⌜ r ≡ told reply .number ⌝ }
+{
+    match reply {
+        Reply::Accepted => 0,
+        Reply::Lowest(_) => 0,
+        Reply::Refused(refusal) => history::number(refusal),
+    }
 }
 
 // How many blocks a take has.
