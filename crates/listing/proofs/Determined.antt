@@ -8,8 +8,9 @@ use native.Mathlib.Omega.{arith}
 use lib.Dec.{eqb}
 use lib.IntN.{ℤ}
 use lib.ListN.{length}
+use Rattle.history.specs.Replies.{numbered}
 use Rattle.blocks.specs.declared.Found.{Found}
-use Rattle.blocks.specs.Takes.{Told, leastOf, blockCount, indexOf, searchRefusal, buildRefusal, numbered, answering}
+use Rattle.blocks.specs.Takes.{Told, rangeMinimum, blockCount, blockMinima, searchRefusal, buildRefusal, answering}
 use Rattle.blocks.specs.Contracts.{Choice}
 use Rattle.text.specs.Stops.{stopLines}
 use Rattle.listing.specs.declared.Request.{Request}
@@ -21,25 +22,25 @@ use Rattle.listing.specs.Choices.{AllAllowed, leastFor, NoSet, Determine
 
 -- an index that leaves a search no choice: if its length is the number of blocks, it is the take's
 abbrev Settled : (values index : List ℤ) → Type 0
-Settled values index = eqb (length index) (blockCount (length values)) ≡ true → index ≡ indexOf values
+Settled values index = eqb (length index) (blockCount (length values)) ≡ true → index ≡ blockMinima values
 
 -- such is an index as building leaves it
 settled-built : (values before : List ℤ) → Settled values (built values before)
 settled-built values before = go (eqb (length before) (blockCount (length values))) refl
   where
     go : (b : Bool) → eqb (length before) (blockCount (length values)) ≡ b
-        → eqb (length (cond b (indexOf values) before)) (blockCount (length values)) ≡ true → cond b (indexOf values) before ≡ indexOf values
+        → eqb (length (cond b (blockMinima values) before)) (blockCount (length values)) ≡ true → cond b (blockMinima values) before ≡ blockMinima values
     go true e t = refl
     go false e t = absurd (let z : _≡_ {A = Bool} true false = sym t ∙ e in let n : _≡_ {A = ℕ} 0 1 = cc in omega arith)
 
 -- what a search over such an index is told
 search-told : (values index : List ℤ) (i j : ℕ) (f : Found) → Settled values index → Choice values index i j f
-    → answering (searchRefusal (length values) (length index) i j) f ≡ answering (searchRefusal (length values) (length index) i j) (leastOf values i j)
+    → answering (searchRefusal (length values) (length index) i j) f ≡ answering (searchRefusal (length values) (length index) i j) (rangeMinimum values i j)
 search-told values index i j f s c = go (eqb (length index) (blockCount (length values))) refl
   where
     go : (b : Bool) → eqb (length index) (blockCount (length values)) ≡ b
-        → answering (searchRefusal (length values) (length index) i j) f ≡ answering (searchRefusal (length values) (length index) i j) (leastOf values i j)
-    go true e = ap (answering (searchRefusal (length values) (length index) i j)) (c .right (s e))
+        → answering (searchRefusal (length values) (length index) i j) f ≡ answering (searchRefusal (length values) (length index) i j) (rangeMinimum values i j)
+    go true e = ap (answering (searchRefusal (length values) (length index) i j)) (c .correct (s e))
     go false e = rw e
 
 -- and so the lines of requests that do not alter it
@@ -50,7 +51,7 @@ lines-determined values index n [] (f ∷ fs) s u a = absurd a
 lines-determined values index n (r ∷ rs) [] s u a = absurd a
 lines-determined values index n (Search i j ∷ rs) (f ∷ fs) s u a =
     ap (λ (t : Told). searchLine n t ++ requestLines values index (n + 1) rs fs) (search-told values index i j f s (a .0))
-    ∙ ap (λ (x : List ℕ). requestLine values index n (Search i j) (leastOf values i j) ++ x) (lines-determined values index (n + 1) rs fs s u (a .1))
+    ∙ ap (λ (x : List ℕ). requestLine values index n (Search i j) (rangeMinimum values i j) ++ x) (lines-determined values index (n + 1) rs fs s u (a .1))
 lines-determined values index n (Stretch i j ∷ rs) (f ∷ fs) s u a =
     ap (λ (x : List ℕ). requestLine values index n (Stretch i j) f ++ x) (lines-determined values index (n + 1) rs fs s u (a .1))
 lines-determined values index n (Set e v ∷ rs) (f ∷ fs) s u a = absurd u

@@ -6,7 +6,7 @@ use native.Mathlib.Omega.{arith}
 use lib.IntN.{ℤ, pos, negsuc}
 use lib.ListN.{length}
 use Rattle.history.specs.Minima.{lowest}
-use Rattle.blocks.specs.Takes.{entriesFrom}
+use Rattle.blocks.specs.Takes.{blockMinimaFrom}
 use Rattle.numbers.specs.FourBytes.{valuesFrom}
 use Rattle.text.specs.Writing.{digitsWithin}
 use Rattle.text.specs.Examples.{AllPrinted}
@@ -17,7 +17,7 @@ use Rattle.listing.specs.Examples.{examples, altered, alteredOutput}
 
 -- THE EXAMPLES, all of the list
 pub examples-printed : AllPrinted exactOutput examples
-unfolding digitsWithin lowest entriesFrom valuesFrom requestsFrom
+unfolding digitsWithin lowest blockMinimaFrom valuesFrom requestsFrom
 examples-printed = refl
 
 -- none is missing
@@ -26,7 +26,7 @@ examples-count = refl
 
 -- THE CHOICE IS OPEN over an altered index: 9 at 0, 7 at 1, and -3 at 1
 pub either-printed : Prints altered (alteredOutput (57 ∷ 32 ∷ 48 ∷ [])) × Prints altered (alteredOutput (55 ∷ 32 ∷ 49 ∷ [])) × Prints altered (alteredOutput (45 ∷ 51 ∷ 32 ∷ 49 ∷ []))
-unfolding digitsWithin lowest entriesFrom valuesFrom requestsFrom
+unfolding digitsWithin lowest blockMinimaFrom valuesFrom requestsFrom
 either-printed = (
   printed (pos 9) 0 (omega arith) refl,
   printed (pos 7) 1 (omega arith) refl,
@@ -40,6 +40,6 @@ either-printed = (
     printed : (v : ℤ) (p : ℕ) → p ≤ 1 → {text : List ℕ} → text ≡ outputOf (unused ∷ record { value = v; place = record { 0 = p } } ∷ []) altered → Prints altered text
     printed v p l e = record {
       found = unused ∷ record { value = v; place = record { 0 = p } } ∷ [];
-      allowed = (tt, (record { inside = λ z. (omega arith, l); right = λ i. absurd (other i) }, tt));
+      allowed = (tt, (record { inside = λ z. (omega arith, l); correct = λ i. absurd (other i) }, tt));
       says = e;
     }

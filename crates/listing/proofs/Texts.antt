@@ -1,27 +1,13 @@
--- The text of a reply, with or without what is found, and that of an index, one entry after the other.
+-- The text of values, one after the other.
 use mathlib.Core.Path.{_≡_, sym, ap, _∙_}
 use mathlib.Core.List.{List, [], _∷_, _++_, append-assoc, append-nil}
-use mathlib.Core.Option.{none, some}
 use Prim.Native.Nat.{ℕ, _+_, _<_, _≤_}
 use native.Mathlib.Numerals.{add-one}
 use lib.IntN.{ℤ, pos}
 use lib.ListN.{length, take, getD}
 use lib.Seq.{take-suc, take-all}
-use Rattle.blocks.specs.declared.Found.{Found}
-use Rattle.blocks.specs.Takes.{Told}
-use Rattle.text.specs.Writing.{Adds, decimalOf}
 use Rattle.text.specs.Parts.{valueText}
-use Rattle.text.proofs.Texts.{then}
-use Rattle.listing.specs.Lines.{foundText, replyText, valuesText}
-
--- the text of a reply that shows nothing
-pub bare : {a b : List ℕ} (t : Told) {n u v : ℕ} → n ≡ t .number → t .shown ≡ none → Adds a u (decimalOf n) b v → Adds a u (replyText t) b v
-bare t e s f = rw (s, ← e) (rw append-nil f)
-
--- the text of a reply that shows what is found
-pub shows : {a b c : List ℕ} (t : Told) {n u v w : ℕ} {f : Found} → n ≡ t .number → t .shown ≡ some f → Adds a u (decimalOf n) b v → Adds b v (foundText f) c w
-    → Adds a u (replyText t) c w
-shows t e s f g = rw (s, ← e) (then f g)
+use Rattle.listing.specs.Lines.{valuesText}
 
 -- values, and one more
 values-append : (vs : List ℤ) (v : ℤ) → valuesText (vs ++ (v ∷ [])) ≡ valuesText vs ++ valueText v

@@ -7,8 +7,9 @@ use native.Mathlib.Omega.{arith}
 use lib.IntN.{ℤ}
 use lib.ListN.{length, take, replicate}
 use Rattle.io.specs.Counts.{Counts}
+use Rattle.history.specs.Replies.{numbered}
 use Rattle.blocks.specs.declared.Reply.{Reply}
-use Rattle.blocks.specs.Takes.{Told, buildRefusal, numbered, told}
+use Rattle.blocks.specs.Takes.{Told, buildRefusal, told}
 use Rattle.blocks.specs.Contracts.{Builds}
 use Rattle.text.specs.Writing.{Adds}
 use Rattle.text.specs.Stops.{stopLines}

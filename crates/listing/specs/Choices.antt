@@ -7,7 +7,7 @@ use mathlib.Core.List.{List, [], _∷_, map}
 use Prim.Native.Nat.{ℕ}
 use lib.IntN.{ℤ, pos}
 use Rattle.blocks.specs.declared.Found.{Found}
-use Rattle.blocks.specs.Takes.{leastOf}
+use Rattle.blocks.specs.Takes.{rangeMinimum}
 use Rattle.blocks.specs.Contracts.{Choice}
 use Rattle.listing.specs.declared.Request.{Request}
 use Rattle.listing.specs.declared.Request.the-variants.{Search, Stretch, Set}
@@ -39,7 +39,7 @@ pub record Prints (bytes text : List ℕ) : Type 0 where
 
 -- what each search finds by the definition alone, whatever the index holds: "the least value from i to j with its latest place"
 abbrev pub leastFor : List ℤ → Request → Found
-leastFor values (Search i j) = leastOf values i j
+leastFor values (Search i j) = rangeMinimum values i j
 leastFor values (Stretch i j) = unused
 leastFor values (Set a v) = unused
 

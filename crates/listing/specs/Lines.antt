@@ -2,7 +2,6 @@
 -- ends with a line feed, as in the other programs.
 use mathlib.Core.Bool.{cond}
 use mathlib.Core.List.{List, [], _∷_, _++_}
-use mathlib.Core.Option.{Option, none, some}
 use Prim.Native.Nat.{ℕ, _-_}
 use lib.Dec.{eqb}
 use lib.IntN.{ℤ, pos}
@@ -10,7 +9,7 @@ use lib.ListN.{length, getD}
 use Rattle.blocks.specs.declared.Found.{Found}
 use Rattle.blocks.specs.Takes.{Told}
 use Rattle.text.specs.Writing.{decimalOf}
-use Rattle.text.specs.Parts.{spaced, newline, valueText}
+use Rattle.text.specs.Parts.{spaced, newline, valueText, toldText}
 
 -- "`no take` alone"
 abbrev pub noTakeLine : List ℕ
@@ -20,12 +19,8 @@ noTakeLine = 110 ∷ 111 ∷ spaced (116 ∷ 97 ∷ 107 ∷ 101 ∷ newline)
 abbrev pub foundText : Found → List ℕ
 foundText f = valueText (f .value) ++ spaced (decimalOf (f .place .0))
 
-abbrev pub shownText : Option Found → List ℕ
-shownText none = []
-shownText (some f) = foundText f
-
 abbrev pub replyText : Told → List ℕ
-replyText t = decimalOf (t .number) ++ shownText (t .shown)
+replyText t = toldText foundText t
 
 -- "a line `build` with the reply"
 abbrev pub buildLine : Told → List ℕ

@@ -4,7 +4,7 @@ use mathlib.Core.List.{List, [], _∷_}
 use Prim.Native.Nat.{ℕ}
 use lib.ListN.{length}
 use Rattle.history.specs.Minima.{lowest}
-use Rattle.blocks.specs.Takes.{entriesFrom}
+use Rattle.blocks.specs.Takes.{blockMinimaFrom}
 use Rattle.numbers.specs.FourBytes.{valuesFrom}
 use Rattle.text.specs.Writing.{digitsWithin}
 use Rattle.text.specs.Examples.{AllPrinted}
@@ -31,5 +31,5 @@ either-printed = (listing.either-printed .0, listing.either-printed .1)
 -- whatever is printed of these bytes is that output, whole
 pub example-printed : (text : List ℕ)
     → Prints (2 ∷ 0 ∷ 0 ∷ 0 ∷ 5 ∷ 0 ∷ 0 ∷ 0 ∷ 253 ∷ 255 ∷ 255 ∷ 255 ∷ 1 ∷ 0 ∷ 0 ∷ 0 ∷ 1 ∷ 0 ∷ 0 ∷ 0 ∷ 0 ∷ 1 ∷ 0 ∷ 0 ∷ 0 ∷ 0 ∷ 0 ∷ 0 ∷ 0 ∷ []) text → text ≡ found
-unfolding digitsWithin lowest entriesFrom valuesFrom requestsFrom
+unfolding digitsWithin lowest blockMinimaFrom valuesFrom requestsFrom
 example-printed text p = determined _ text tt p

@@ -4,7 +4,7 @@ use mathlib.Core.Option.{Option, none, some}
 use Prim.Native.Nat.{ℕ}
 use lib.IntN.{ℤ}
 use Rattle.history.specs.declared.Minimum.{Minimum}
-use Rattle.history.specs.Replies.{Told}
+use Rattle.history.specs.Replies.{ToldOf, Told}
 use Rattle.text.specs.Writing.{decimalOf, signedText}
 
 -- the parts of a line stand a space apart, and it ends with a line feed
@@ -22,10 +22,14 @@ valueText v = spaced (signedText v)
 abbrev pub minimumText : Minimum → List ℕ
 minimumText m = valueText (m .value) ++ spaced (decimalOf (m .place .0))
 
-abbrev pub shownText : Option Minimum → List ℕ
-shownText none = []
-shownText (some m) = minimumText m
+-- what is shown, if anything, by the text that it has
+abbrev pub shownText : {Shown : Type 0} → (text : Shown → List ℕ) → Option Shown → List ℕ
+shownText text none = []
+shownText text (some shown) = text shown
 
 -- "the reply", and what it shows
+abbrev pub toldText : {Shown : Type 0} → (text : Shown → List ℕ) → ToldOf Shown → List ℕ
+toldText text t = decimalOf (t .number) ++ shownText text (t .shown)
+
 abbrev pub replyText : Told → List ℕ
-replyText t = decimalOf (t .number) ++ shownText (t .shown)
+replyText t = toldText minimumText t

@@ -38,7 +38,7 @@ add-at : tie.Need-add-at
 add-at c = record { fits = omega (arith, c .before .before .before .before .follow .ensures .within) }
 
 sub-put-stop : tie.Need-sub-put-stop
-sub-put-stop c = c .before .before .before .before .before .follow .ensures .within
+sub-put-stop c = omega (arith, c .before .before .before .before .before .follow .ensures .within)
 
 put-stop-requires : tie.Need-put-stop-requires
 put-stop-requires c κs =

@@ -8,7 +8,8 @@ use Rattle.blocks.specs.declared.Reply.{Reply}
 use Rattle.blocks.specs.Takes.{told}
 use Rattle.text.specs.Writing.{decimalOf}
 use Rattle.text.proofs.Decimals.{within}
-use Rattle.listing.proofs.Texts.{bare, shows}
+use Rattle.text.proofs.ReplyTexts.{bare, shows}
+use Rattle.listing.specs.Lines.{foundText}
 use Rattle.listing.proofs.lines.reply.Statement.{statement}
 use Rattle.listing.proofs.lines.reply.Tie as tie
 
@@ -47,7 +48,7 @@ returns c =
     let m = c .before .before in
     let r = m .before .before .before in
     let n = r .before .before .before .before in (
-      shows _ (n .before .reply-number .ensures) (ap (λ (r : Reply). told r .shown) (r .reply .given .1)) (n .put-number .ensures) (m .found .ensures .0),
+      shows foundText _ (n .before .reply-number .ensures) (ap (λ (r : Reply). told r .shown) (r .reply .given .1)) (n .put-number .ensures) (m .found .ensures .0),
       omega (arith, few (n .before), n .put-number .ensures .counts, m .found .ensures .1),
     )
 
@@ -57,7 +58,7 @@ same-length-2 c = search needs
 returns-2 : tie.Need-returns-2
 returns-2 c =
     let n = c .before .before .before .before in
-    (bare _ (n .before .reply-number .ensures) (ap (λ (r : Reply). told r .shown) (c .enum-told .given .1)) (n .put-number .ensures), omega (arith, few (n .before), n .put-number .ensures .counts))
+    (bare foundText _ (n .before .reply-number .ensures) (ap (λ (r : Reply). told r .shown) (c .enum-told .given .1)) (n .put-number .ensures), omega (arith, few (n .before), n .put-number .ensures .counts))
 
 same-length-3 : tie.Need-same-length-3
 same-length-3 c = search needs
@@ -65,7 +66,7 @@ same-length-3 c = search needs
 returns-3 : tie.Need-returns-3
 returns-3 c =
     let n = c .before .before .before .before in
-    (bare _ (n .before .reply-number .ensures) (ap (λ (r : Reply). told r .shown) (c .enum-told2 .given .1)) (n .put-number .ensures), omega (arith, few (n .before), n .put-number .ensures .counts))
+    (bare foundText _ (n .before .reply-number .ensures) (ap (λ (r : Reply). told r .shown) (c .enum-told2 .given .1)) (n .put-number .ensures), omega (arith, few (n .before), n .put-number .ensures .counts))
 
 pub reply-spec : {M : Type 1} → statement M
 reply-spec =
