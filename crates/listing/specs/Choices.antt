@@ -1,6 +1,6 @@
 -- What is the program's own choice in its output. Document 02, point 3: "Correct replies presuppose an index built from that take; otherwise the search stays in bounds, and the value and place
 -- shown are its own choice." The program searches over an index that request 04 has altered, too; so what a search finds is no function of the bytes there. It is whatever `blocks` promises
--- of that search (`Choice`): over the take's index the least value of the range with its latest place, over any other index of its length some value, and a place of the range. All else in the
+-- of that search (`Choice`): over the take's index the least value of the range with its latest place, over any other index of as many entries some value, and a place of the range. All else in the
 -- output is a function of the bytes.
 use mathlib.Core.Path.{_≡_}
 use mathlib.Core.List.{List, [], _∷_, map}
