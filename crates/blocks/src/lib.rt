@@ -1,11 +1,12 @@
 // A static range minimum over blocks: document 02, point 3. A finished take, which is a lent list of values, stands beside its index, the least of each block of 64 values. One call builds
 // the index, one searches a range of the take, and one hands back a stretch of it.
 ghost use mathlib.Core.Path.{_≡_};
+ghost use denote.Ref.{ptr};
 ghost use Prim.Native.Nat.{_+_, _*_, _<_, _≤_};
 ghost use lib.ListN.{length, take as front};
 ghost use Rattle.history.specs.Minima.{takesOver};
-ghost use Rattle.blocks.specs.Takes.{leastFrom, blockOf, blockCount, stretchOf};
-ghost use Rattle.blocks.specs.Contracts.{Builds, Searches};
+ghost use Rattle.blocks.specs.Takes.{leastFrom, blockOf, blockCount};
+ghost use Rattle.blocks.specs.Contracts.{Builds, Searches, Stretches};
 ghost use Rattle.blocks.specs.Private.{LastPlace, lowerOf, OfBlocks, withLeft, withRight, blocksBefore, Covers};
 use history::Refusal;
 
@@ -46,6 +47,13 @@ fn block(take: &[i32], b: usize) -> &[i32]
     &take[from..from + 64]
 }
 
+// Whether a later value takes over from the least before it: the choice among equal values.
+fn takes_over(later: i32, least: i32) -> bool
+    ensures { λ r. ⌜ r ≡ takesOver later least ⌝ }
+{
+    later <= least
+}
+
 // The least value.
 fn least_value(values: &[i32]) -> i32
     requires { ⌜ 0 < length (now values) ⌝ }
@@ -55,7 +63,7 @@ fn least_value(values: &[i32]) -> i32
     let mut k = 0;
     while k < values.len() {
         let v = values[k];
-        if v < least {
+        if takes_over(v, least) {
             least = v;
         }
         k += 1;
@@ -99,13 +107,6 @@ fn least_of_edge(take: &[i32], a: usize, e: usize) -> Found
         value: found.value,
         place: Offset(a + place.0),
     }
-}
-
-// Whether a later value takes over from the least before it: the choice among equal values.
-fn takes_over(later: i32, least: i32) -> bool
-    ensures { λ r. ⌜ r ≡ takesOver later least ⌝ }
-{
-    later <= least
 }
 
 // The lower of the least of one range and that of a later one.
@@ -185,7 +186,7 @@ fn least_within(take: &[i32], index: &[i32], i: usize, e: usize) -> Found
     with_right_edge(take, 64 * end, e, from)
 }
 
-// Writes the index of a take: an entry for each block.
+// Writes the index of a take, an entry for each block. Refused with 15 for an index of another length.
 pub fn build(take: &[i32], index: &mut [i32]) -> Reply
     ensures { λ r. ⌜ Builds (now (take .entry)) (now (index .entry)) (now (index .exit)) r ⌝ }
 {
@@ -201,7 +202,8 @@ pub fn build(take: &[i32], index: &mut [i32]) -> Reply
     Reply::Accepted
 }
 
-// The least value from `i` to `j`, both with it, and its place in the take.
+// The least value from `i` to `j`, both included, and its place in the take, where the index was built from that take. Refused with 15 for an index of another length, then with 14 for a
+// range that the take does not have.
 pub fn search(take: &[i32], index: &[i32], i: usize, j: usize) -> Reply
     ensures { λ r. ⌜ Searches (now (take .entry)) (now (index .entry)) i j r ⌝ }
 {
@@ -217,9 +219,9 @@ pub fn search(take: &[i32], index: &[i32], i: usize, j: usize) -> Reply
     Reply::Lowest(least_within(take, index, i, j + 1))
 }
 
-// The stretch from `i` to `j`, both with it, as a part of the caller's own take. It is empty where a search of that range is refused with 14.
+// The stretch from `i` to `j`, both included, as a part of the caller's own take. It is empty where `i` exceeds `j` or `j` is not below the take's length.
 pub fn stretch(take: &[i32], i: usize, j: usize) -> &[i32]
-    ensures { λ r. ⌜ now r ≡ stretchOf (now (take .entry)) i j ⌝ }
+    ensures { λ r. ⌜ Stretches (ptr (take .entry)) (now (take .entry)) i j (ptr r) (now r) ⌝ }
 {
     if j < i {
         return &take[..0];

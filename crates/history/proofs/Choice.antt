@@ -1,10 +1,11 @@
 -- The laws of the choice among equal values. Those that the stack needs hold of `leZ` as of `ltZ`: above this crate only the proof of the comparison itself looks
 -- into `takesOver`.
-use mathlib.Core.Path.{_≡_, sym, ap, _∙_}
+use mathlib.Core.Path.{_≡_, refl, sym, ap, _∙_}
 use mathlib.Core.Bool.{Bool, true, false, cond}
 use lib.IntN.{ℤ}
 use lib.Signed.{leZ}
 use Rattle.laws.proofs.Order.{leZ-trans, leZ-total}
+use Rattle.laws.proofs.Tests.{clash, refuted}
 use Rattle.history.specs.declared.Minimum.{Minimum}
 use Rattle.history.specs.Minima.{takesOver, lower}
 
@@ -24,3 +25,14 @@ no-smaller v a h = leZ-total v a h
 pub lower-as : {a d : Minimum} (m : Minimum) (b : Bool) → a ≡ d → takesOver (m .value) (a .value) ≡ b → lower d m ≡ cond b m d
 lower-as {a} {d} m b e h =
     ap (λ (x : Bool). cond x m d) (ap (λ (x : Minimum). takesOver (m .value) (x .value)) (sym e) ∙ h)
+
+-- of three, it is all the same which two are compared first
+pub lower-assoc : (a b c : Minimum) → lower (lower a b) c ≡ lower a (lower b c)
+lower-assoc a b c = go (takesOver (b .value) (a .value)) (takesOver (c .value) (b .value)) refl refl
+  where
+    go : (t u : Bool) → takesOver (b .value) (a .value) ≡ t → takesOver (c .value) (b .value) ≡ u
+        → lower (cond t b a) c ≡ lower a (cond u c b)
+    go true true p q = simp (q, monotone (c .value) (b .value) (a .value) (no-larger (b .value) (a .value) p) q)
+    go true false p q = simp (p, q)
+    go false true p q = refl
+    go false false p q = simp (p, refuted (takesOver (c .value) (a .value)) (λ h. clash (monotone (c .value) (a .value) (b .value) (no-smaller (b .value) (a .value) p) h) q))

@@ -1,0 +1,83 @@
+-- `blocks::least_of_blocks` meets its contract: the index has the block, and the take the place in it.
+use Prim.Native.Nat.{_+_}
+use native.Mathlib.Omega.{arith}
+use mathlib.Core.Path.{_≡_}
+use mir.Syntax.{w32}
+use mir.Val.{toZ, ofZ}
+use mir.Facts.{toZ-ofZ}
+use Rattle.blocks.proofs.Covering.{length-block, of-blocks}
+use borrow.Author.Needs.{needs}
+use Rattle.blocks.proofs.least_of_blocks.Statement.{statement}
+use Rattle.blocks.proofs.least_of_blocks.Tie as tie
+
+mul-least : tie.Need-mul-least
+mul-least c = search needs
+
+sub-least : tie.Need-sub-least
+sub-least c = search needs
+
+part-least-start : tie.Need-part-least-start
+part-least-start c = search needs
+
+part-least-end : tie.Need-part-least-end
+part-least-end c = search needs
+
+least-requires : tie.Need-least-requires
+least-requires c κs = search needs
+
+add-b : tie.Need-add-b
+add-b c = search needs
+
+block-requires : tie.Need-block-requires
+block-requires c κs = search needs
+
+place-of-requires : tie.Need-place-of-requires
+place-of-requires c κs =
+    let l = c .before .before .before .before in
+    let a = l .before .before .args in
+    rw (c .block .ensures) (length-block (a .take .now) (a .first + l .least .result .place .0) (omega arith) .0)
+
+mul-t10 : tie.Need-mul-t10
+mul-t10 c = search needs
+
+add-t12 : tie.Need-add-t12
+add-t12 c = search needs
+
+returns : tie.Need-returns
+returns c =
+    let p = c .before in
+    let l = p .before .before .before .before .before in
+    let a = l .before .before .args in
+    let same : toZ w32 (ofZ w32 (l .least .result .value)) ≡ l .least .result .value =
+    toZ-ofZ (record { sfits = p .before .before .before .before .struct-told .given .0 .1 }) in
+    rw same
+    (of-blocks
+    (a .take .now)
+    (a .index .now)
+    (a .first)
+    (a .end)
+    (l .least .result .value)
+    (l .least .result .place .0)
+    (p .place-of .result)
+    (l .before .before .pre .0)
+    (l .before .before .pre .1)
+    (l .before .before .pre .2)
+    (l .least .ensures .0)
+    (l .least .ensures .1)
+    (rw (p .before .block .ensures, same) at (p .place-of .ensures)))
+
+pub least-of-blocks-spec : {M : Type 1} → statement M
+least-of-blocks-spec =
+    tie.close
+    (tie.spec
+    mul-least
+    sub-least
+    part-least-start
+    part-least-end
+    least-requires
+    add-b
+    block-requires
+    place-of-requires
+    mul-t10
+    add-t12
+    returns)
