@@ -4,3 +4,6 @@ pub mod Scanning
 pub mod Indexes
 pub mod Covering
 pub mod Answers
+pub mod Point
+pub mod Tied
+pub mod Examples

@@ -7,9 +7,10 @@ use Prim.Native.Nat.{ℕ, _+_, _*_, _≤_}
 use lib.Dec.{eqb}
 use lib.IntN.{ℤ}
 use lib.ListN.{length}
+use Rattle.history.specs.Replies.{numbered}
 use Rattle.blocks.specs.declared.Found.{Found}
 use Rattle.blocks.specs.declared.Reply.{Reply}
-use Rattle.blocks.specs.Takes.{leastOf, blockCount, indexOf, rangeRefusal, buildRefusal, searchRefusal, stretchOf, numbered, told, answering}
+use Rattle.blocks.specs.Takes.{leastOf, blockCount, indexOf, rangeRefusal, buildRefusal, searchRefusal, stretchOf, told, answering}
 
 -- "Building writes every index entry and nothing else": the index is then the take's, whatever it held. "15 .. also when building, which then writes nothing"
 pub record Builds (values before after : List ℤ) (r : Reply) : Type 0 where

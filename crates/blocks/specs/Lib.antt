@@ -1,3 +1,5 @@
 pub mod Takes
 pub mod Contracts
+pub mod Promises
+pub mod Examples
 pub mod Private

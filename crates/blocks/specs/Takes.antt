@@ -2,14 +2,13 @@
 -- is of the program but the types of an offset, of what is found and of a reply.
 use mathlib.Core.Bool.{cond, _||_}
 use mathlib.Core.List.{List, [], _∷_}
-use mathlib.Core.Option.{Option, none, some}
 use Prim.Native.Nat.{ℕ, zero, suc, _+_, _*_, _-_, _/_}
 use lib.Dec.{eqb, leb, ltb}
 use lib.IntN.{ℤ}
 use lib.ListN.{length, take, drop}
 use Rattle.history.specs.declared.Minimum.{Minimum}
 use Rattle.history.specs.Minima.{minimum}
-use Rattle.history.specs.Replies.{numberOf}
+use Rattle.history.specs.Replies.{ToldOf, numbered, showing, numberOf}
 use Rattle.blocks.specs.declared.Found.{Found}
 use Rattle.blocks.specs.declared.Reply.{Reply}
 
@@ -60,16 +59,9 @@ buildRefusal n m = indexRefusal n m 0
 abbrev pub stretchOf : List ℤ → (i j : ℕ) → List ℤ
 stretchOf values i j = cond (eqb (rangeRefusal (length values) i j) 0) (take (j + 1 - i) (drop i values)) []
 
--- what a caller is told: the number, and what a search shows
-pub record Told : Type 0 where
-  pub number : ℕ
-  pub shown : Option Found
-
-abbrev pub numbered : ℕ → Told
-numbered n = record { number = n; shown = none }
-
-abbrev pub showing : Found → Told
-showing f = record { number = 0; shown = some f }
+-- what a caller is told: the number and, of a search, the value and its place
+abbrev pub Told : Type 0
+Told = ToldOf Found
 
 -- what each case of a reply tells
 abbrev pub told : Reply → Told

@@ -15,13 +15,17 @@ use Rattle.history.specs.declared.Event.{Event}
 use Rattle.history.specs.declared.Due.{Due}
 use Rattle.history.specs.Standings.{transitionOf}
 
--- what a caller is told: the papers' number and, "for Query" and for a window's value, "value and place"
-pub record Told : Type 0 where
+-- what a caller is told: the papers' number, and what is shown besides
+pub record ToldOf (Shown : Type 0) : Type 0 where
   pub number : ℕ
-  pub shown : Option Minimum
+  pub shown : Option Shown
+
+-- "for Query" and for a window's value, "value and place"
+abbrev pub Told : Type 0
+Told = ToldOf Minimum
 
 -- "no value or place is shown"
-abbrev pub numbered : ℕ → Told
+abbrev pub numbered : {Shown : Type 0} → ℕ → ToldOf Shown
 numbered n = record { number = n; shown = none }
 
 -- "Reply 0 is acceptance"
@@ -29,7 +33,7 @@ abbrev pub accepted : Told
 accepted = numbered 0
 
 -- "for Query it carries value and place"; and document 02, point 2: "Reply after each value: least value and place."
-abbrev pub showing : Minimum → Told
+abbrev pub showing : {Shown : Type 0} → Shown → ToldOf Shown
 showing m = record { number = 0; shown = some m }
 
 -- the numbers of the list
