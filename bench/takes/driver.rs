@@ -198,6 +198,8 @@ pub fn side_table(table: &Table, starts: &[usize], length: usize) -> u64 {
 
 const SIDES: [&str; 4] = ["ours", "once", "twice", "table"];
 const LENGTHS: [usize; 4] = [100, 10_000, 1_000_000, VALUES];
+// how many values an index is built of
+const BUILT: [usize; 4] = [1000, 10_000, 1_000_000, VALUES];
 
 struct Sides<'a> {
     take: &'a [i32],
@@ -285,52 +287,61 @@ fn count_of(side: &str, length: usize) -> usize {
     }
 }
 
-// Nanoseconds a search, and milliseconds a building. In a round the sides take turns, and in every other round in the opposite order; the first round warms up.
+// A side's seconds in each round. In a round the sides take turns, and in every other round in the opposite order; the first round warms up.
+fn rounds_of<const N: usize>(rounds: usize, sides: [&str; N], seconds: impl Fn(&str) -> f64) -> [Vec<f64>; N] {
+    let mut times = sides.map(|_| vec![]);
+    for round in 0..=rounds {
+        for turn in 0..N {
+            let side = if round % 2 == 0 { turn } else { N - 1 - turn };
+            let took = seconds(sides[side]);
+            if round > 0 {
+                times[side].push(took);
+            }
+        }
+    }
+    times
+}
+
+const BUILDERS: [&str; 3] = ["ours", "scan", "references"];
+
+// Microseconds a building, and a scan: several times in a round where that is short.
+fn time_building(rounds: usize, values: &[i32], kind: &str) {
+    let times = rounds_of(rounds, BUILDERS, |side| {
+        let mut index = vec![0; values.len().div_ceil(64)];
+        build_ours(values, &mut index);
+        let often = (VALUES / 10 / values.len()).max(1);
+        let start = Instant::now();
+        for _ in 0..often {
+            match side {
+                "ours" => black_box(build_ours(black_box(values), &mut index)) as i32,
+                "scan" => black_box(build_scan(black_box(values))),
+                _ => black_box(build_references(black_box(values))),
+            };
+        }
+        start.elapsed().as_secs_f64() * 1e6 / often as f64
+    });
+    for (side, all) in BUILDERS.iter().zip(times) {
+        let (least, median) = quickest(all);
+        println!("build {side} {} {kind} {least:.4} {median:.4}", values.len());
+    }
+}
+
+// Nanoseconds a search.
 fn time(rounds: usize) {
     for kind in TAKES {
         let values = take(kind, VALUES);
-        let mut index = vec![0; VALUES.div_ceil(64)];
-        let names = ["ours", "scan", "references"];
-        let mut times = names.map(|_| vec![]);
-        for round in 0..=rounds {
-            for turn in 0..names.len() {
-                let side = if round % 2 == 0 { turn } else { names.len() - 1 - turn };
-                let start = Instant::now();
-                match names[side] {
-                    "ours" => {
-                        black_box(build_ours(black_box(&values), &mut index));
-                    }
-                    "scan" => {
-                        black_box(build_scan(black_box(&values)));
-                    }
-                    _ => {
-                        black_box(build_references(black_box(&values)));
-                    }
-                }
-                if round > 0 {
-                    times[side].push(start.elapsed().as_secs_f64() * 1e3);
-                }
-            }
-        }
-        for (name, all) in names.iter().zip(times) {
-            let (least, median) = quickest(all);
-            println!("build {name} {VALUES} {kind} {least:.4} {median:.4}");
+        for length in BUILT {
+            time_building(rounds, &values[..length], kind);
         }
         let start = Instant::now();
         let sides = Sides::new(&values);
         println!("table {} {} {:.1}", kind, sides.table.as_ref().unwrap().bytes(), start.elapsed().as_secs_f64() * 1e3);
         for length in LENGTHS {
-            let mut times = SIDES.map(|_| vec![]);
-            for round in 0..=rounds {
-                for turn in 0..SIDES.len() {
-                    let side = if round % 2 == 0 { turn } else { SIDES.len() - 1 - turn };
-                    let starts = ranges(length, VALUES, count_of(SIDES[side], length));
-                    let took = sides.run(SIDES[side], &starts, length).1;
-                    if round > 0 {
-                        times[side].push(took * 1e9 / starts.len() as f64);
-                    }
-                }
-            }
+            let starts = SIDES.map(|side| (side, ranges(length, VALUES, count_of(side, length))));
+            let times = rounds_of(rounds, SIDES, |side| {
+                let starts = &starts.iter().find(|of| of.0 == side).unwrap().1;
+                sides.run(side, starts, length).1 * 1e9 / starts.len() as f64
+            });
             for (side, all) in SIDES.iter().zip(times) {
                 let (least, median) = quickest(all);
                 println!("search {side} {length} {kind} {least:.3} {median:.3}");
