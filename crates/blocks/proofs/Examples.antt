@@ -9,7 +9,7 @@ use borrow.Author.Tests.{ne-eqb}
 use Rattle.history.specs.Minima.{lowest}
 use Rattle.blocks.specs.declared.Found.{Found}
 use Rattle.blocks.specs.declared.Reply.{Reply}
-use Rattle.blocks.specs.Takes.{leastOf, blockCount, entriesFrom, indexOf, searchRefusal, told, answering}
+use Rattle.blocks.specs.Takes.{rangeMinimum, blockCount, blockMinimaFrom, blockMinima, searchRefusal, told, answering}
 use Rattle.blocks.specs.Contracts.{Searches}
 use Rattle.blocks.specs.Promises.{Fitting}
 use Rattle.blocks.specs.Examples.{Search, searched, searches, Index, indexed, indexes, Stretch, stretched, stretches, SearchGives, BuildGives, StretchGives, Each}
@@ -23,17 +23,17 @@ unfolding lowest
 searches-worked = refl
 
 pub indexes-worked : map indexed indexes ≡ indexes
-unfolding lowest entriesFrom
+unfolding lowest blockMinimaFrom
 indexes-worked = refl
 
 pub stretches-worked : map stretched stretches ≡ stretches
 stretches-worked = refl
 
 -- what a search is told where its index is the take's, if it has as many entries
-answers : (values index : List ℤ) (i j : ℕ) (r : Reply) → Searches values index i j r → (Fitting values index → index ≡ indexOf values)
-    → told r ≡ answering (searchRefusal (length values) (length index) i j) (leastOf values i j)
+answers : (values index : List ℤ) (i j : ℕ) (r : Reply) → Searches values index i j r → (Fitting values index → index ≡ blockMinima values)
+    → told r ≡ answering (searchRefusal (length values) (length index) i j) (rangeMinimum values i j)
 answers values index i j r d f = elim (ℕ-discrete (length index) (blockCount (length values))) [
-  | yes n ↦ d .tells ∙ ap (answering (searchRefusal (length values) (length index) i j)) (d .choice .right (f n))
+  | yes n ↦ d .tells ∙ ap (answering (searchRefusal (length values) (length index) i j)) (d .choice .correct (f n))
   | no n ↦
       let e : searchRefusal (length values) (length index) i j ≡ 15 = simp (ne-eqb (length index) (blockCount (length values)) n) in
       d .tells ∙ (simp e)
@@ -42,7 +42,7 @@ answers values index i j r d f = elim (ℕ-discrete (length index) (blockCount (
 search-gives : (e : Search) → searched e ≡ e → SearchGives Searched e
 search-gives e w index r q n f =
     answers (e .values) index (e .i) (e .j) r (tied.searches (e .values) index (e .i) (e .j) r q) f
-    ∙ ap (λ (m : ℕ). answering (searchRefusal (length (e .values)) m (e .i) (e .j)) (leastOf (e .values) (e .i) (e .j))) n
+    ∙ ap (λ (m : ℕ). answering (searchRefusal (length (e .values)) m (e .i) (e .j)) (rangeMinimum (e .values) (e .i) (e .j))) n
     ∙ ap (λ (x : Search). x .tells) w
 
 build-gives : (e : Index) → indexed e ≡ e → BuildGives Built e

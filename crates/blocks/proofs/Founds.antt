@@ -13,7 +13,7 @@ use Rattle.history.specs.Minima.{takesOver, lower, minimum}
 use Rattle.history.proofs.Lowest.{minimum-least}
 use Rattle.history.proofs.Parts.{moved, minimum-behind, minimum-append}
 use Rattle.blocks.specs.declared.Found.{Found}
-use Rattle.blocks.specs.Takes.{fromZero, leastFrom}
+use Rattle.blocks.specs.Takes.{fromZero, minimumFrom}
 use Rattle.blocks.specs.Private.{lowerOf}
 
 -- which of two is the lower does not depend on the count from 0
@@ -33,7 +33,7 @@ part-some vs b e l s = omega (arith, length-take (e - b) (drop b vs), length-dro
 
 -- A RANGE IN TWO PARTS: the lower of what is found in both
 pub joined : (vs : List ℤ) (a b e : ℕ) → a < b → b < e → b < length vs
-    → leastFrom (take e vs) a ≡ lowerOf (leastFrom (take b vs) a) (leastFrom (take e vs) b)
+    → minimumFrom (take e vs) a ≡ lowerOf (minimumFrom (take b vs) a) (minimumFrom (take e vs) b)
 joined vs a b e l m s =
     let n : length (take b vs) ≡ b = length-take-le b vs (omega arith) in
     let both = minimum-append (take b vs) (take (e - b) (drop b vs)) (record { 0 = a + 1 }) (omega arith) (omega arith) (part-some vs b e m s) in
@@ -46,7 +46,7 @@ abbrev pub shifted : ℕ → Found → Found
 shifted a f = record { value = f .value; place = record { 0 = a + f .place .0 } }
 
 -- A PART HANDED ON: "whose place is relative: add a"
-pub handed-on : (vs : List ℤ) (a e : ℕ) → a < e → a < length vs → leastFrom (take e vs) a ≡ shifted a (leastFrom (take (e - a) (drop a vs)) 0)
+pub handed-on : (vs : List ℤ) (a e : ℕ) → a < e → a < length vs → minimumFrom (take e vs) a ≡ shifted a (minimumFrom (take (e - a) (drop a vs)) 0)
 handed-on vs a e l s =
     let part : List ℤ = take (e - a) (drop a vs) in
     let one : Position = record { 0 = 1 } in
@@ -57,7 +57,7 @@ handed-on vs a e l s =
     ap fromZero q ∙ ap (λ (k : ℕ). record { value = minimum part one .value; place = record { 0 = k } }) (omega (arith, stands .from))
 
 -- the least of some values stands at one of their offsets
-pub found-inside : (vs : List ℤ) → 0 < length vs → leastFrom vs 0 .place .0 < length vs
+pub found-inside : (vs : List ℤ) → 0 < length vs → minimumFrom vs 0 .place .0 < length vs
 found-inside vs s =
     let stands = minimum-least vs (record { 0 = 1 }) (omega arith) s in
     omega (arith, stands .from, stands .to)

@@ -10,49 +10,49 @@ use lib.Seq.{take-suc, take-suc-set, take-all, length-take-le, getD-take}
 use Rattle.history.specs.Minima.{takesOver, standsAt, minimum}
 use Rattle.history.proofs.Lowest.{minimum-new}
 use Rattle.blocks.specs.declared.Found.{Found}
-use Rattle.blocks.specs.Takes.{fromZero, leastFrom, blockOf, blockCount, entriesFrom, indexOf}
+use Rattle.blocks.specs.Takes.{fromZero, minimumFrom, blockOf, blockCount, blockMinimaFrom, blockMinima}
 use Rattle.blocks.specs.Private.{lowerOf}
 use Rattle.blocks.proofs.Founds.{joined, shifted, handed-on}
 
-length-entries : (n b : ℕ) (values : List ℤ) → length (entriesFrom n b values) ≡ n
-unfolding entriesFrom
+length-entries : (n b : ℕ) (values : List ℤ) → length (blockMinimaFrom n b values) ≡ n
+unfolding blockMinimaFrom
 length-entries zero b values = refl
 length-entries (suc n) b values = ap suc (length-entries n (b + 1) values)
 
 -- the index has as many entries as the take has blocks
-pub length-index : (values : List ℤ) → length (indexOf values) ≡ blockCount (length values)
+pub length-index : (values : List ℤ) → length (blockMinima values) ≡ blockCount (length values)
 length-index values = length-entries (blockCount (length values)) 0 values
 
-entry-of : (n b : ℕ) (values : List ℤ) (k : ℕ) → k < n → getD (entriesFrom n b values) k (pos 0) ≡ leastFrom (blockOf values (b + k)) 0 .value
-unfolding entriesFrom
+entry-of : (n b : ℕ) (values : List ℤ) (k : ℕ) → k < n → getD (blockMinimaFrom n b values) k (pos 0) ≡ minimumFrom (blockOf values (b + k)) 0 .value
+unfolding blockMinimaFrom
 entry-of zero b values k h = absurd (omega arith)
-entry-of (suc n) b values zero h = let q : b ≡ b + 0 = omega arith in ap (λ (x : ℕ). leastFrom (blockOf values x) 0 .value) q
+entry-of (suc n) b values zero h = let q : b ≡ b + 0 = omega arith in ap (λ (x : ℕ). minimumFrom (blockOf values x) 0 .value) q
 entry-of (suc n) b values (suc k) h =
     let q : b + 1 + k ≡ b + suc k = omega arith in
-    entry-of n (b + 1) values k (omega arith) ∙ ap (λ (x : ℕ). leastFrom (blockOf values x) 0 .value) q
+    entry-of n (b + 1) values k (omega arith) ∙ ap (λ (x : ℕ). minimumFrom (blockOf values x) 0 .value) q
 
 -- entry b is the least of block b
-pub entry : (values : List ℤ) (b : ℕ) → b < blockCount (length values) → getD (indexOf values) b (pos 0) ≡ leastFrom (blockOf values b) 0 .value
+pub entry : (values : List ℤ) (b : ℕ) → b < blockCount (length values) → getD (blockMinima values) b (pos 0) ≡ minimumFrom (blockOf values b) 0 .value
 entry values b h =
     let q : 0 + b ≡ b = omega arith in
-    entry-of (blockCount (length values)) 0 values b h ∙ ap (λ (x : ℕ). leastFrom (blockOf values x) 0 .value) q
+    entry-of (blockCount (length values)) 0 values b h ∙ ap (λ (x : ℕ). minimumFrom (blockOf values x) 0 .value) q
 
 -- the first entries of an index that is being written: one more, and all
-pub built-more : (values w : List ℤ) (b : ℕ) (v : ℤ) → b < length w → b < blockCount (length values) → v ≡ leastFrom (blockOf values b) 0 .value
-    → take b w ≡ take b (indexOf values) → take (b + 1) (set w b v) ≡ take (b + 1) (indexOf values)
+pub built-more : (values w : List ℤ) (b : ℕ) (v : ℤ) → b < length w → b < blockCount (length values) → v ≡ minimumFrom (blockOf values b) 0 .value
+    → take b w ≡ take b (blockMinima values) → take (b + 1) (set w b v) ≡ take (b + 1) (blockMinima values)
 built-more values w b v l h e q =
     let one : b + 1 ≡ suc b = omega arith in
     rw one
     (take-suc-set w b v l
     ∙ ap (λ (xs : List ℤ). xs ++ (v ∷ [])) q
-    ∙ ap (λ (x : ℤ). take b (indexOf values) ++ (x ∷ [])) (e ∙ sym (entry values b h))
-    ∙ sym (take-suc (indexOf values) b (pos 0) (omega (arith, length-index values))))
+    ∙ ap (λ (x : ℤ). take b (blockMinima values) ++ (x ∷ [])) (e ∙ sym (entry values b h))
+    ∙ sym (take-suc (blockMinima values) b (pos 0) (omega (arith, length-index values))))
 
-pub built-all : (values w : List ℤ) (b : ℕ) → blockCount (length values) ≤ b → length w ≤ b → take b w ≡ take b (indexOf values) → w ≡ indexOf values
-built-all values w b h l q = sym (take-all b w l) ∙ q ∙ take-all b (indexOf values) (omega (arith, length-index values))
+pub built-all : (values w : List ℤ) (b : ℕ) → blockCount (length values) ≤ b → length w ≤ b → take b w ≡ take b (blockMinima values) → w ≡ blockMinima values
+built-all values w b h l q = sym (take-all b w l) ∙ q ∙ take-all b (blockMinima values) (omega (arith, length-index values))
 
 -- of one value, that value there
-pub one-value : (vs : List ℤ) (k : ℕ) → k < length vs → leastFrom (take (k + 1) vs) k ≡ record { value = getD vs k (pos 0); place = record { 0 = k } }
+pub one-value : (vs : List ℤ) (k : ℕ) → k < length vs → minimumFrom (take (k + 1) vs) k ≡ record { value = getD vs k (pos 0); place = record { 0 = k } }
 one-value vs k h =
     let ws : List ℤ = take (k + 1) vs in
     let n : length ws ≡ k + 1 = length-take-le (k + 1) vs (omega arith) in
@@ -63,10 +63,10 @@ one-value vs k h =
 
 -- what is found in block b, as it is counted in the take
 abbrev pub inBlock : List ℤ → ℕ → Found
-inBlock values b = shifted (64 * b) (leastFrom (blockOf values b) 0)
+inBlock values b = shifted (64 * b) (minimumFrom (blockOf values b) 0)
 
 -- which is what is found from where the block begins to where it ends
-found-in-block : (values : List ℤ) (b : ℕ) → 64 * b < length values → leastFrom (take (64 * (b + 1)) values) (64 * b) ≡ inBlock values b
+found-in-block : (values : List ℤ) (b : ℕ) → 64 * b < length values → minimumFrom (take (64 * (b + 1)) values) (64 * b) ≡ inBlock values b
 found-in-block values b h =
     let n : 64 * (b + 1) - 64 * b ≡ 64 = omega arith in
     rw n at (handed-on values (64 * b) (64 * (b + 1)) (omega arith) h)
@@ -74,12 +74,12 @@ found-in-block values b h =
 -- of the blocks from `first` on, n and one more
 module _ (values : List ℤ) (first : ℕ) where
   abbrev index : List ℤ
-  index = indexOf values
+  index = blockMinima values
 
   -- what is found among the entries before `end`, and among the values of those blocks: a block, and its least
   pub record Agree (end : ℕ) : Type 0 where
-    pub value : leastFrom (take (64 * end) values) (64 * first) .value ≡ leastFrom (take end index) first .value
-    pub whole : leastFrom (take (64 * end) values) (64 * first) ≡ inBlock values (leastFrom (take end index) first .place .0)
+    pub value : minimumFrom (take (64 * end) values) (64 * first) .value ≡ minimumFrom (take end index) first .value
+    pub whole : minimumFrom (take (64 * end) values) (64 * first) ≡ inBlock values (minimumFrom (take end index) first .place .0)
 
   agree-one : first < blockCount (length values) → Agree (first + 1)
   agree-one h =
@@ -93,14 +93,14 @@ module _ (values : List ℤ) (first : ℕ) where
   agree-more : (end : ℕ) → first < end → end < blockCount (length values) → Agree end → Agree (end + 1)
   agree-more end l h r =
       let e : ℤ = getD index end (pos 0) in
-      let f : Found = leastFrom (take end index) first in
+      let f : Found = minimumFrom (take end index) first in
       let new : Found = record { value = e; place = record { 0 = end } } in
       let n : end < length index = omega (arith, length-index values) in
-      let among : leastFrom (take (end + 1) index) first ≡ lowerOf f new =
+      let among : minimumFrom (take (end + 1) index) first ≡ lowerOf f new =
       joined index first end (end + 1) l (omega arith) n ∙ ap (lowerOf f) (one-value index end n) in
-      let within : leastFrom (take (64 * (end + 1)) values) (64 * first) ≡ lowerOf (inBlock values (f .place .0)) (inBlock values end) =
+      let within : minimumFrom (take (64 * (end + 1)) values) (64 * first) ≡ lowerOf (inBlock values (f .place .0)) (inBlock values end) =
       joined values (64 * first) (64 * end) (64 * (end + 1)) (omega arith) (omega arith) (omega arith)
-      ∙ ap (λ (x : Found). lowerOf x (leastFrom (take (64 * (end + 1)) values) (64 * end))) (r .whole)
+      ∙ ap (λ (x : Found). lowerOf x (minimumFrom (take (64 * (end + 1)) values) (64 * end))) (r .whole)
       ∙ ap (lowerOf (inBlock values (f .place .0))) (found-in-block values end (omega arith)) in
       let older : inBlock values (f .place .0) .value ≡ f .value = sym (ap (λ (x : Found). x .value) (r .whole)) ∙ r .value in
       let newer : inBlock values end .value ≡ e = sym (entry values end h) in

@@ -13,7 +13,7 @@ use Rattle.history.specs.declared.Minimum.{Minimum}
 use Rattle.history.specs.Minima.{minimum}
 use Rattle.history.proofs.Lowest.{minimum-least}
 use Rattle.blocks.specs.declared.Reply.{Reply}
-use Rattle.blocks.specs.Takes.{fromZero, blockOf, blockCount, indexOf, rangeRefusal, searchRefusal, told}
+use Rattle.blocks.specs.Takes.{fromZero, blockOf, blockCount, blockMinima, rangeRefusal, searchRefusal, told}
 use Rattle.blocks.specs.Contracts.{Builds, Searches, Stretches}
 use Rattle.blocks.specs.Promises.{BuildSays, SearchSays, StretchSays, Fitting, Outside, TellsLeast, EveryIndex, EveryBuild, EverySearch, EveryStretch, Point3}
 use Rattle.blocks.proofs.Refusals.{exceeds, not-below, in-range}
@@ -56,7 +56,7 @@ module _ (values index : List ℤ) (i j : ℕ) (r : Reply) (d : Searches values 
         let n = length-take-le (j + 1) values (omega arith) in (
           minimum (take (j + 1) values) (record { 0 = i + 1 }),
           minimum-least (take (j + 1) values) (record { 0 = i + 1 }) (omega arith) (omega (arith, n)),
-          rw (d .choice .right e) at (simp z at (d .tells)),
+          rw (d .choice .correct e) at (simp z at (d .tells)),
         );
   }
 

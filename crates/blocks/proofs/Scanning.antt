@@ -15,16 +15,16 @@ use Rattle.history.specs.declared.Position.{Position}
 use Rattle.history.specs.declared.Minimum.{Minimum}
 use Rattle.history.specs.Minima.{takesOver, lower, standsAt, next, lowest, presentAt, minimum, Least}
 use Rattle.history.proofs.Lowest.{minimum-more, minimum-least}
-use Rattle.blocks.specs.Takes.{leastFrom}
+use Rattle.blocks.specs.Takes.{minimumFrom}
 
 abbrev first : Position
 first = record { 0 = 1 }
 
 -- the least of the first k values, or of the first one at the start
 abbrev pub Least-so-far : List ℤ → ℕ → ℤ → Type 0
-Least-so-far vs k m = m ≡ leastFrom (take (max k 1) vs) 0 .value
+Least-so-far vs k m = m ≡ minimumFrom (take (max k 1) vs) 0 .value
 
-alone : (vs : List ℤ) → 0 < length vs → leastFrom (take 1 vs) 0 .value ≡ getD vs 0 (pos 0)
+alone : (vs : List ℤ) → 0 < length vs → minimumFrom (take 1 vs) 0 .value ≡ getD vs 0 (pos 0)
 unfolding lowest
 alone [] h = absurd (omega arith)
 alone (v ∷ vs) h = refl
@@ -41,7 +41,7 @@ pub so-far-more : (vs : List ℤ) (k : ℕ) (m : ℤ) → k < length vs → Leas
     → Least-so-far vs (k + 1) (cond (takesOver (getD vs k (pos 0)) m) (getD vs k (pos 0)) m)
 so-far-more vs zero m h e = both (takesOver (getD vs 0 (pos 0)) m)
   where
-    both : (b : Bool) → cond b (getD vs 0 (pos 0)) m ≡ leastFrom (take 1 vs) 0 .value
+    both : (b : Bool) → cond b (getD vs 0 (pos 0)) m ≡ minimumFrom (take 1 vs) 0 .value
     both true = sym (alone vs h)
     both false = e
 so-far-more vs (suc k) m h e =
@@ -64,11 +64,11 @@ module _ (vs : List ℤ) (h : 0 < length vs) where
   least : Least vs first m
   least = minimum-least vs first (omega arith) h
 
-  pub stands : getD vs (leastFrom vs 0 .place .0) (pos 0) ≡ leastFrom vs 0 .value
+  pub stands : getD vs (minimumFrom vs 0 .place .0) (pos 0) ≡ minimumFrom vs 0 .value
   stands = least .stands
 
-  pub none-behind : (k : ℕ) → k < length vs → getD vs k (pos 0) ≡ leastFrom vs 0 .value → k ≤ leastFrom vs 0 .place .0
-  none-behind k l e = elim (lt-or-ge (leastFrom vs 0 .place .0) k) [
+  pub none-behind : (k : ℕ) → k < length vs → getD vs k (pos 0) ≡ minimumFrom vs 0 .value → k ≤ minimumFrom vs 0 .place .0
+  none-behind k l e = elim (lt-or-ge (minimumFrom vs 0 .place .0) k) [
     | inr g ↦ g
     | inl g ↦
         let back : k + 1 - 1 ≡ k = omega arith in

@@ -10,18 +10,18 @@ use lib.ListN.{length}
 use Rattle.history.specs.Replies.{numbered}
 use Rattle.blocks.specs.declared.Found.{Found}
 use Rattle.blocks.specs.declared.Reply.{Reply}
-use Rattle.blocks.specs.Takes.{leastOf, blockCount, indexOf, rangeRefusal, buildRefusal, searchRefusal, stretchOf, told, answering}
+use Rattle.blocks.specs.Takes.{rangeMinimum, blockCount, blockMinima, rangeRefusal, buildRefusal, searchRefusal, stretchOf, told, answering}
 
 -- "Building writes every index entry and nothing else": the index is then the take's, whatever it held. "15 .. also when building, which then writes nothing"
 pub record Builds (values before after : List ℤ) (r : Reply) : Type 0 where
   pub tells : told r ≡ numbered (buildRefusal (length values) (length before))
-  pub writes : after ≡ cond (eqb (length before) (blockCount (length values))) (indexOf values) before
+  pub writes : after ≡ cond (eqb (length before) (blockCount (length values))) (blockMinima values) before
 
 -- what a search may show. Over an index built from that take it is the definition's; "otherwise the search stays in bounds, and the value and place shown are its own choice": the value is
 -- free, and every choice has in common that the place is one of the range
 pub record Choice (values index : List ℤ) (i j : ℕ) (f : Found) : Type 0 where
   pub inside : searchRefusal (length values) (length index) i j ≡ 0 → (i ≤ f .place .0) × (f .place .0 ≤ j)
-  pub right : index ≡ indexOf values → f ≡ leastOf values i j
+  pub correct : index ≡ blockMinima values → f ≡ rangeMinimum values i j
 
 -- the number is determined, whatever the index holds; so is that a refusal shows nothing, and that an accepted search shows a value and a place. Where it is refused, `shows` is not shown
 pub record Searches (values index : List ℤ) (i j : ℕ) (r : Reply) : Type 0 where

@@ -7,7 +7,7 @@ use lib.IntN.{ℤ, pos, negsuc}
 use lib.ListN.{length, replicate}
 use Rattle.history.specs.Replies.{numbered, showing}
 use Rattle.blocks.specs.declared.Reply.{Reply}
-use Rattle.blocks.specs.Takes.{Told, leastOf, indexOf, searchRefusal, stretchOf, told, answering}
+use Rattle.blocks.specs.Takes.{Told, rangeMinimum, blockMinima, searchRefusal, stretchOf, told, answering}
 use Rattle.blocks.specs.Promises.{BuildSays, SearchSays, StretchSays, Fitting}
 
 -- a take, how many entries its index has, the range from i to j, and what the search is told
@@ -25,7 +25,7 @@ searched e = record {
   entries = e .entries;
   i = e .i;
   j = e .j;
-  tells = answering (searchRefusal (length (e .values)) (e .entries) (e .i) (e .j)) (leastOf (e .values) (e .i) (e .j));
+  tells = answering (searchRefusal (length (e .values)) (e .entries) (e .i) (e .j)) (rangeMinimum (e .values) (e .i) (e .j));
 }
 
 abbrev least : ℤ → ℕ → Told
@@ -99,7 +99,7 @@ pub record Index : Type 0 where
   pub entries : List ℤ
 
 abbrev pub indexed : Index → Index
-indexed e = record { values = e .values; entries = indexOf (e .values) }
+indexed e = record { values = e .values; entries = blockMinima (e .values) }
 
 abbrev index : List ℤ → List ℤ → Index
 index values entries = record { values = values; entries = entries }
@@ -146,7 +146,7 @@ stretches =
 -- that lies anywhere
 abbrev pub SearchGives : SearchSays → Search → Type 0
 SearchGives says e =
-    (index : List ℤ) (r : Reply) → says (e .values) index (e .i) (e .j) r → length index ≡ e .entries → (Fitting (e .values) index → index ≡ indexOf (e .values))
+    (index : List ℤ) (r : Reply) → says (e .values) index (e .i) (e .j) r → length index ≡ e .entries → (Fitting (e .values) index → index ≡ blockMinima (e .values))
     → told r ≡ e .tells
 
 abbrev pub BuildGives : BuildSays → Index → Type 0

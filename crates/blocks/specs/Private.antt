@@ -9,12 +9,12 @@ use lib.ListN.{length, take}
 use Rattle.history.specs.Minima.{takesOver}
 use Rattle.blocks.specs.declared.Offset.{Offset}
 use Rattle.blocks.specs.declared.Found.{Found}
-use Rattle.blocks.specs.Takes.{leastFrom, blockCount, indexOf}
+use Rattle.blocks.specs.Takes.{minimumFrom, blockCount, blockMinima}
 
 -- `place_of`: an offset of the values; where v is the least of them, its place
 pub record LastPlace (values : List ℤ) (v : ℤ) (r : Offset) : Type 0 where
   pub inside : r .0 < length values
-  pub stands : v ≡ leastFrom values 0 .value → r .0 ≡ leastFrom values 0 .place .0
+  pub stands : v ≡ minimumFrom values 0 .value → r .0 ≡ minimumFrom values 0 .place .0
 
 -- `lower`: of what is found in a range and in one that follows it
 abbrev pub lowerOf : Found → Found → Found
@@ -22,10 +22,10 @@ lowerOf earlier later = cond (takesOver (later .value) (earlier .value)) later e
 
 -- an edge block's part before what is found, and one behind it, where there are such parts
 abbrev pub withLeft : List ℤ → (i a : ℕ) → Found → Found
-withLeft values i a f = cond (ltb i a) (lowerOf (leastFrom (take a values) i) f) f
+withLeft values i a f = cond (ltb i a) (lowerOf (minimumFrom (take a values) i) f) f
 
 abbrev pub withRight : List ℤ → (a e : ℕ) → Found → Found
-withRight values a e f = cond (ltb a e) (lowerOf f (leastFrom (take e values) a)) f
+withRight values a e f = cond (ltb a e) (lowerOf f (minimumFrom (take e values) a)) f
 
 -- how many of the first blocks of n values end at e or before it
 abbrev pub blocksBefore : (n e : ℕ) → ℕ
@@ -35,11 +35,11 @@ blocksBefore n e = cond (eqb e n) (blockCount n) (e / 64)
 pub record Covers (values index : List ℤ) (a e : ℕ) (f : Found) : Type 0 where
   pub from : a ≤ f .place .0
   pub to : f .place .0 < e
-  pub right : index ≡ indexOf values → f ≡ leastFrom (take e values) a
+  pub correct : index ≡ blockMinima values → f ≡ minimumFrom (take e values) a
 
 -- `least_of_blocks`: the same of whole blocks, the last of which ends where the take does, if not before
 pub record OfBlocks (values index : List ℤ) (first end : ℕ) (f : Found) : Type 0 where
   pub from : 64 * first ≤ f .place .0
   pub to : f .place .0 < 64 * end
   pub some : f .place .0 < length values
-  pub right : index ≡ indexOf values → f ≡ leastFrom (take (64 * end) values) (64 * first)
+  pub correct : index ≡ blockMinima values → f ≡ minimumFrom (take (64 * end) values) (64 * first)

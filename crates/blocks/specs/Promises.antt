@@ -11,7 +11,7 @@ use Rattle.history.specs.Minima.{Least}
 use Rattle.history.specs.Replies.{numbered, showing}
 use Rattle.blocks.specs.declared.Found.{Found}
 use Rattle.blocks.specs.declared.Reply.{Reply}
-use Rattle.blocks.specs.Takes.{fromZero, blockOf, blockCount, indexOf, told}
+use Rattle.blocks.specs.Takes.{fromZero, blockOf, blockCount, blockMinima, told}
 use Rattle.blocks.specs.Contracts.{liesAt}
 
 -- what is known of `build`: the take, the index before and after, and the reply; of `search`: the take, the index, i, j and the reply; and of `stretch`: where the take lies, its values, i, j,
@@ -39,8 +39,8 @@ TellsLeast values i j r = (m : Minimum) × Least (take (j + 1) values) (record {
 
 -- THE INDEX of a take. "Beside it stands an index: the least of each block of 64 values, the last block perhaps shorter"
 pub record EveryIndex (values : List ℤ) : Type 0 where
-  pub fitting : Fitting values (indexOf values)
-  pub entries : (b : ℕ) → b < blockCount (length values) → (m : Minimum) × Least (blockOf values b) (record { 0 = 1 }) m × (getD (indexOf values) b (pos 0) ≡ m .value)
+  pub fitting : Fitting values (blockMinima values)
+  pub entries : (b : ℕ) → b < blockCount (length values) → (m : Minimum) × Least (blockOf values b) (record { 0 = 1 }) m × (getD (blockMinima values) b (pos 0) ≡ m .value)
   -- every value of the take stands in one block, at one place, and a block has no others
   pub blocks : (k : ℕ) → k < length values → (k / 64 < blockCount (length values)) × (getD (blockOf values (k / 64)) (k % 64) (pos 0) ≡ getD values k (pos 0))
   pub whole : (b : ℕ) → 64 * b + 64 ≤ length values → length (blockOf values b) ≡ 64
@@ -48,7 +48,7 @@ pub record EveryIndex (values : List ℤ) : Type 0 where
 
 -- BUILDING. "Building writes every index entry and nothing else"; "15 .. also when building, which then writes nothing"
 pub record EveryBuild (values before after : List ℤ) (r : Reply) : Type 0 where
-  pub writes : Fitting values before → (told r ≡ numbered 0) × (after ≡ indexOf values)
+  pub writes : Fitting values before → (told r ≡ numbered 0) × (after ≡ blockMinima values)
   pub refused : (Fitting values before → ⊥) → (told r ≡ numbered 15) × (after ≡ before)
 
 -- SEARCHING, over any index, built or not
@@ -59,7 +59,7 @@ pub record EverySearch (values index : List ℤ) (i j : ℕ) (r : Reply) : Type 
   -- and else it is accepted, and shows a value and a place in the range
   pub shows : Fitting values index → i ≤ j → j < length values → (f : Found) × (told r ≡ showing f) × (i ≤ f .place .0) × (f .place .0 ≤ j)
   -- "Correct replies presuppose an index built from that take"
-  pub least : index ≡ indexOf values → i ≤ j → j < length values → TellsLeast values i j r
+  pub least : index ≡ blockMinima values → i ≤ j → j < length values → TellsLeast values i j r
 
 -- A STRETCH. "hands back the stretch from i to j as part of the player's own take"; "for an i and j that get 14, the stretch is empty"
 pub record EveryStretch (at : ℕ × ℕ) (values : List ℤ) (i j : ℕ) (start : ℕ × ℕ) (part : List ℤ) : Type 0 where

@@ -5,7 +5,7 @@ ghost use denote.Ref.{ptr};
 ghost use Prim.Native.Nat.{_+_, _*_, _<_, _≤_};
 ghost use lib.ListN.{length, take as front};
 ghost use Rattle.history.specs.Minima.{takesOver};
-ghost use Rattle.blocks.specs.Takes.{leastFrom, blockOf, blockCount};
+ghost use Rattle.blocks.specs.Takes.{minimumFrom, blockOf, blockCount, told};
 ghost use Rattle.blocks.specs.Contracts.{Builds, Searches, Stretches};
 ghost use Rattle.blocks.specs.Private.{LastPlace, lowerOf, OfBlocks, withLeft, withRight, blocksBefore, Covers};
 use history::Refusal;
@@ -23,6 +23,17 @@ pub enum Reply {
     Accepted,
     Lowest(Found),
     Refused(Refusal),
+}
+
+// The papers' number of a reply: 0 of an acceptance.
+pub fn reply_number(reply: Reply) -> u8
+    ensures { λ r. ⌜ r ≡ told reply .number ⌝ }
+{
+    match reply {
+        Reply::Accepted => 0,
+        Reply::Lowest(_) => 0,
+        Reply::Refused(refusal) => history::number(refusal),
+    }
 }
 
 // How many blocks a take has.
@@ -57,7 +68,7 @@ fn takes_over(later: i32, least: i32) -> bool
 // The least value.
 fn least_value(values: &[i32]) -> i32
     requires { ⌜ 0 < length (now values) ⌝ }
-    ensures { λ r. ⌜ r ≡ leastFrom (now (values .entry)) 0 .value ⌝ }
+    ensures { λ r. ⌜ r ≡ minimumFrom (now (values .entry)) 0 .value ⌝ }
 {
     let mut least = values[0];
     let mut k = 0;
@@ -89,7 +100,7 @@ fn place_of(values: &[i32], v: i32) -> Offset
 // The least value of a slice, and its place in the slice.
 fn least(values: &[i32]) -> Found
     requires { ⌜ 0 < length (now values) ⌝ }
-    ensures { λ r. ⌜ (r ≡ leastFrom (now (values .entry)) 0) × (r .place .0 < length (now (values .entry))) ⌝ }
+    ensures { λ r. ⌜ (r ≡ minimumFrom (now (values .entry)) 0) × (r .place .0 < length (now (values .entry))) ⌝ }
 {
     let value = least_value(values);
     let place = place_of(values, value);
@@ -99,7 +110,7 @@ fn least(values: &[i32]) -> Found
 // The least of the part of a take inside an edge block, from `a` to before `e`: the place in the part, and `a`.
 fn least_of_edge(take: &[i32], a: usize, e: usize) -> Found
     requires { ⌜ (a < e) × (e ≤ length (now take)) ⌝ }
-    ensures { λ r. ⌜ r ≡ leastFrom (front e (now (take .entry))) a ⌝ }
+    ensures { λ r. ⌜ r ≡ minimumFrom (front e (now (take .entry))) a ⌝ }
 {
     let found = least(&take[a..e]);
     let place = found.place;

@@ -44,7 +44,8 @@ abbrev pub lastOf : List ℤ → ℤ
 lastOf values = valueAt values (presentAt values)
 
 -- "The dip of an active tap i at present position j is the least of the values at i to j, and its place." An active mark stands at one
--- of the positions 1 to j, and so does a window's oldest value (document 02, point 2); outside them this says nothing that anyone is told
+-- of the positions 1 to j, and so do a window's oldest value and the first of a range of a stored take (document 02, points 2 and 3); outside
+-- them this says nothing that anyone is told
 abbrev pub minimum : List ℤ → Position → Minimum
 minimum values i = lowest (standsAt (valueAt values i) i) (next i) (drop (i .0) values)
 

@@ -7,7 +7,7 @@ use lib.IntN.{ℤ}
 use lib.ListN.{length, length-set, take as front}
 use borrow.Author.Tests.{eq-eqb, ne-eqb}
 use mir.Facts.{toZ-ofZ}
-use Rattle.blocks.specs.Takes.{leastFrom, blockCount, indexOf}
+use Rattle.blocks.specs.Takes.{minimumFrom, blockCount, blockMinima}
 use Rattle.blocks.proofs.Indexes.{length-index, built-more, built-all}
 use Rattle.blocks.proofs.Covering.{length-block}
 use borrow.Author.Needs.{needs, sfits-of}
@@ -15,7 +15,7 @@ use Rattle.blocks.proofs.build.Statement.{statement}
 use Rattle.blocks.proofs.build.Tie as tie
 
 abbrev Inv-loop : tie.InvT-loop
-Inv-loop take index₀ blocks b₀ index b = (b ≤ blocks) × (length index ≡ length index₀) × (front b index ≡ front b (indexOf take))
+Inv-loop take index₀ blocks b₀ index b = (b ≤ blocks) × (length index ≡ length index₀) × (front b index ≡ front b (blockMinima take))
 
 abbrev μ-loop : tie.MeasureT-loop
 μ-loop take index₀ blocks b₀ index b = blocks - b
@@ -60,7 +60,7 @@ loop-again c =
     let vs = a .take .now in
     let b = l .loop .b in
     let n = length-index vs in
-    let v = toZ-ofZ (sfits-of (c .least-value .ok)) ∙ c .least-value .ensures ∙ ap (λ (xs : List ℤ). leastFrom xs 0 .value) (c .before .block .ensures) in (
+    let v = toZ-ofZ (sfits-of (c .least-value .ok)) ∙ c .least-value .ensures ∙ ap (λ (xs : List ℤ). minimumFrom xs 0 .value) (c .before .block .ensures) in (
       omega arith,
       length-set (l .loop .index) b _ ∙ l .loop .inv .1,
       built-more vs (l .loop .index) b _ (omega (arith, l .loop .inv .1)) (omega arith) v (l .loop .inv .2),

@@ -13,7 +13,7 @@ use mir.Syntax.{w32}
 use mir.Val.{toZ, ofZ}
 use mir.Facts.{toZ-ofZ}
 use Rattle.history.specs.Minima.{takesOver}
-use Rattle.blocks.specs.Takes.{leastFrom}
+use Rattle.blocks.specs.Takes.{minimumFrom}
 use Rattle.blocks.proofs.Scanning.{Least-so-far, so-far-first, so-far-more}
 use Rattle.blocks.proofs.least_value.Statement.{statement}
 use Rattle.blocks.proofs.least_value.Tie as tie
@@ -62,7 +62,7 @@ returns : tie.Need-returns Inv-loop μ-loop
 returns c =
     let l = c .before in
     let vs = l .before .before .args .values .now in
-    l .loop .inv .1 ∙ ap (λ (xs : List ℤ). leastFrom xs 0 .value) (take-all (max (l .loop .k) 1) vs (omega arith))
+    l .loop .inv .1 ∙ ap (λ (xs : List ℤ). minimumFrom xs 0 .value) (take-all (max (l .loop .k) 1) vs (omega arith))
 
 pub least-value-spec : {M : Type 1} → statement M
 least-value-spec =

@@ -8,14 +8,14 @@ use lib.ListN.{length, getD}
 use mir.Syntax.{w32}
 use mir.Val.{toZ, ofZ}
 use mir.Facts.{toZ-ofZ}
-use Rattle.blocks.specs.Takes.{leastFrom}
+use Rattle.blocks.specs.Takes.{minimumFrom}
 use Rattle.blocks.proofs.Founds.{found-inside}
 use Rattle.blocks.proofs.Scanning.{stands, none-behind}
 use Rattle.blocks.proofs.place_of.Statement.{statement}
 use Rattle.blocks.proofs.place_of.Tie as tie
 
 abbrev Inv-loop : tie.InvT-loop
-Inv-loop values v k₀ k = (k < length values) × (toZ w32 v ≡ leastFrom values 0 .value → leastFrom values 0 .place .0 ≤ k)
+Inv-loop values v k₀ k = (k < length values) × (toZ w32 v ≡ minimumFrom values 0 .value → minimumFrom values 0 .place .0 ≤ k)
 
 abbrev μ-loop : tie.MeasureT-loop
 μ-loop values v k₀ k = k
@@ -62,7 +62,7 @@ loop-again c =
       omega arith,
       λ e.
           let before = l .loop .inv .1 e in
-          let other : leastFrom vs 0 .place .0 ≡ l .loop .k → ⊥ =
+          let other : minimumFrom vs 0 .place .0 ≡ l .loop .k → ⊥ =
           λ q. c .if1 .left (ap (ofZ w32) (ap (λ (k : ℕ). getD vs k (pos 0)) (sym q) ∙ stands vs (l .before .pre) ∙ sym e ∙ v)) in
           omega (arith, other),
     )
