@@ -130,8 +130,8 @@ filkotar_window_answer filkotar_window_value(filkotar_window s, uint64_t *area, 
  *         ...                                                          f.value is the least of take[100] to take[699], and take[f.place] is where it stands
  *     }
  *
- * The index of a take of `length` values has (length + 63) / 64 entries, rounded down, so none where the take is empty. Work it out in numbers where the sum
- * cannot wrap, or as length / 64 + (length % 64 != 0), which is the same and never wraps.
+ * The index of a take of `length` values has (length + 63) / 64 entries, as C divides; so none where the take is empty. Where that sum could wrap, work it
+ * out as length / 64 + (length % 64 != 0), which is the same number and never wraps.
  *
  * In both calls `take` points to `length` values and `index` to `blocks` entries, and nothing else writes these while the call runs. While an index is
  * built, take and index do not overlap, and nothing else reads the index. Where `length` is 0, `take` points to none and may be a null pointer; so may
@@ -165,7 +165,7 @@ FILKOTAR_SAME(__builtin_offsetof(filkotar_found, place), 8);
 uint32_t filkotar_build(const int32_t *take, uint64_t length, int32_t *index, uint64_t blocks);
 
 /*
- * Searches the range from take[i] to take[j], both with it, for its least value. The first line that applies:
+ * Searches the range from take[i] to take[j], both included, for its least value. The first line that applies:
  *
  *     blocks is not (length + 63) / 64          number 15
  *     i is above j, or j is not below length    number 14
@@ -173,11 +173,11 @@ uint32_t filkotar_build(const int32_t *take, uint64_t length, int32_t *index, ui
  *
  * With 15 and 14 value and place are 0. i and j may be any numbers, up to UINT64_MAX.
  *
- * With 0, and an index that filkotar_build wrote for this take, where neither has been written since: value is the least of take[i] to take[j], and place
- * is where it stands, the latest where it stands at several, from i to j; so value is take[place].
+ * With 0, and with an index that filkotar_build wrote for this take, neither of them altered since: value is the least of take[i] to take[j], and place is
+ * where it stands, the latest where it stands at several. So place is from i to j, and value is take[place].
  *
  * The call is as safe with an index that holds something else. It stays within the `length` values and the `blocks` entries, returns, and gives the number
- * above; with 0, place is from i to j, while value, and which place, may be any. In no case does it write to the take or to the index.
+ * above. With 0, place is then one from i to j, but which one, and value, may be any. In no case is the take or the index written.
  */
 filkotar_found filkotar_search(const int32_t *take, uint64_t length, const int32_t *index, uint64_t blocks, uint64_t i, uint64_t j);
 

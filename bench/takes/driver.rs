@@ -334,8 +334,9 @@ fn time(rounds: usize) {
             time_building(rounds, &values[..length], kind);
         }
         let start = Instant::now();
-        let sides = Sides::new(&values);
-        println!("table {} {} {:.1}", kind, sides.table.as_ref().unwrap().bytes(), start.elapsed().as_secs_f64() * 1e3);
+        let table = Table::new(&values);
+        println!("table {kind} {} {:.3}", table.bytes(), start.elapsed().as_secs_f64() * 1e3);
+        let sides = Sides { take: &values, ours: Ours::new(&values), table: Some(table) };
         for length in LENGTHS {
             let starts = SIDES.map(|side| (side, ranges(length, VALUES, count_of(side, length))));
             let times = rounds_of(rounds, SIDES, |side| {

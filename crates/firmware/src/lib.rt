@@ -43,7 +43,7 @@ pub extern "C" fn filkotar_build(take: &[i32], index: &mut [i32]) -> u32
     takes::number_of(blocks::build(take, index))
 }
 
-// The least value of a take from `i` to `j`, both with it, and its place.
+// The least value of a take from `i` to `j`, both included, and its place, where the index was built from that take.
 #[no_mangle]
 pub extern "C" fn filkotar_search(take: &[i32], index: &[i32], i: usize, j: usize) -> FoundNumbers
     ensures { λ r. ⌜ SearchesInNumbers (now (take .entry)) (now (index .entry)) i j r ⌝ }

@@ -142,7 +142,7 @@ built-and-searched : (values before after : List ℤ) (i j : ℕ) (r : FoundNumb
     → i ≤ j → j < length values → Shows values i j r
 built-and-searched values before after i j r b s = search-least values after i j r s (built values before after 0 b refl)
 
--- THE CONVERSES: no more is learnt of the functions that C calls than their contracts say, so that what stands above is of calls that exist. The references may be any
+-- THE CONVERSES: no more is learnt of the functions that C calls than their contracts say, so that what stands above is of all that these allow. The references may be any
 any : RefT (List ℤ)
 any = record { ptr = (0, 0); name = 0; now = [] }
 
