@@ -40,7 +40,7 @@ pub extern "C" fn filkotar_window_value(s: WindowNumbers, area: &mut [u64], v: i
 pub extern "C" fn filkotar_build(take: &[i32], index: &mut [i32]) -> u32
     ensures { λ r. ⌜ BuildsInNumbers (now (take .entry)) (now (index .entry)) (now (index .exit)) r ⌝ }
 {
-    takes::number_of(blocks::build(take, index))
+    blocks::reply_number(blocks::build(take, index)) as u32
 }
 
 // The least value of a take from `i` to `j`, both included, and its place, where the index was built from that take.

@@ -15,17 +15,6 @@ pub struct FoundNumbers {
     pub place: usize,
 }
 
-// The papers' number of a reply: 0 of an acceptance.
-pub fn number_of(reply: Reply) -> u32
-    ensures { λ r. ⌜ r ≡ told reply .number ⌝ }
-{
-    match reply {
-        Reply::Accepted => 0,
-        Reply::Lowest(_) => 0,
-        Reply::Refused(why) => history::number(why) as u32,
-    }
-}
-
 fn nothing() -> Found
     ensures { λ r. ⌜ r ≡ shownOf none ⌝ }
 {
@@ -53,7 +42,7 @@ pub fn found_of(reply: Reply) -> FoundNumbers
     let found = shown(reply);
     let place = found.place;
     FoundNumbers {
-        number: number_of(reply),
+        number: blocks::reply_number(reply) as u32,
         value: found.value,
         place: place.0,
     }
