@@ -2,8 +2,7 @@
 -- end of the list, and one line.
 use mathlib.Core.Path.{_≡_, refl, sym, ap, _∙_}
 use mathlib.Core.List.{List, [], _∷_, _++_}
-use Prim.Native.Nat.{ℕ, zero, suc, _+_, _*_, _≤_}
-use native.Mathlib.Nat.{add-zero}
+use Prim.Native.Nat.{ℕ, _+_, _*_, _≤_}
 use native.Mathlib.Numerals.{add-one}
 use native.Mathlib.Omega.{arith}
 use lib.ListN.{length, length-append}
@@ -13,7 +12,8 @@ use Rattle.history.proofs.Acceptances.{acceptances-more}
 use Rattle.runs.specs.Runs.{Call}
 use Rattle.runs.specs.Lists.{commandsOf, toldTo, InTurn, lastSession, lastWords}
 use Rattle.runs.proofs.Lists.{in-turn-more, commands-more, told-more, commands-length, told-length, session-more, words-more}
-use Rattle.signed.specs.TwosComplement.{signedOf}
+use Rattle.numbers.specs.FourBytes.{valueAt, valuesFrom}
+use Rattle.numbers.proofs.Values.{values-more}
 use Rattle.window.specs.declared.Window.{Window}
 use Rattle.window.specs.Windows.{model}
 use Rattle.window.specs.Claim.{Answered}
@@ -23,23 +23,9 @@ use Rattle.text.proofs.Texts.{nothing, then}
 use Rattle.text.proofs.Numbered.{lines-more}
 use Rattle.readout.specs.declared.Progress.{Progress}
 use Rattle.readout.specs.Lines.{valueLine}
-use Rattle.readout.specs.Input.{numberAt, valuesFrom, countOf}
+use Rattle.readout.specs.Input.{countOf}
 use Rattle.readout.specs.Output.{valueLines}
 use Rattle.readout.specs.Private.{Performs, Follows}
-
--- one value more, behind n
-values-more : (n at : ℕ) (bytes : List ℕ) → valuesFrom (suc n) at bytes ≡ valuesFrom n at bytes ++ (signedOf (numberAt bytes (at + 4 * n)) ∷ [])
-unfolding valuesFrom
-values-more zero at bytes = rw (add-zero at)
-values-more (suc n) at bytes =
-    let k : at + 4 + 4 * n ≡ at + 4 * suc n = omega arith in
-    ap (λ (x : List ℤ). signedOf (numberAt bytes at) ∷ x) (values-more n (at + 4) bytes ∙ ap (λ (x : ℕ). valuesFrom n (at + 4) bytes ++ (signedOf (numberAt bytes x) ∷ [])) k)
-
--- there are as many as were asked for
-pub values-length : (n at : ℕ) (bytes : List ℕ) → length (valuesFrom n at bytes) ≡ n
-unfolding valuesFrom
-values-length zero at bytes = refl
-values-length (suc n) at bytes = ap suc (values-length n (at + 4) bytes)
 
 -- what holds after i values, of a following from the session s and the words `before`, with `start` bytes of `out` written before it
 pub record Reached (bytes before out : List ℕ) (start : ℕ) (s : Window) (words written : List ℕ) (progress : Progress) (i : ℕ) : Type 0 where
@@ -76,7 +62,7 @@ reached-start bytes before out start s = record {
 
 -- one value more
 pub reached-more : {bytes before out words after written printed : List ℕ} {start : ℕ} {s : Window} {progress r : Progress} {i : ℕ} {v : ℤ}
-    → Reached bytes before out start s words written progress i → i + 1 ≤ countOf bytes → v ≡ signedOf (numberAt bytes (8 + 4 * i))
+    → Reached bytes before out start s words written progress i → i + 1 ≤ countOf bytes → v ≡ valueAt bytes (8 + 4 * i)
     → Performs progress (i + 1) v words after written printed r → Reached bytes before out start s after printed r (i + 1)
 reached-more {bytes} {before} {words = words} {after} {start = start} {s} {progress} {r} {i} {v} u l e o =
     let c : Call model = record { command = v; lent = words; left = after; told = o .told; session = r .session } in

@@ -16,14 +16,15 @@ use Rattle.window.specs.Claim.{Answered, OpeningAgrees, Meets}
 use Rattle.window.specs.Contracts.{Opens, Does}
 use Rattle.window.proofs.Steps.{opening-words}
 use Rattle.window.proofs.Theorem.{by-contract}
+use Rattle.numbers.proofs.Values.{values-length}
 use Rattle.text.specs.Writing.{Adds}
+use Rattle.text.specs.Stops.{stopLines}
 use Rattle.text.proofs.Texts.{then}
 use Rattle.readout.specs.declared.Progress.{Progress}
-use Rattle.readout.specs.Lines.{openLine, stopLines, endLine}
+use Rattle.readout.specs.Lines.{openLine, endLine}
 use Rattle.readout.specs.Input.{widthOf, countOf, valuesOf, leftOf, endOf}
 use Rattle.readout.specs.Output.{valueLines, printed}
 use Rattle.readout.specs.Private.{Follows}
-use Rattle.readout.proofs.Values.{values-length}
 
 module _ {first left bytes heading written : List ℕ} {o : Answer} {start : ℕ} {progress : Progress} (p : Opens (widthOf bytes) first left o)
     (f : Follows (o .session) left bytes heading start written progress) where

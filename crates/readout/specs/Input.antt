@@ -1,14 +1,9 @@
 -- The limiter's input: W, the number of words to lend, and values. The quotes are from its description, at the head of Output.
-use mathlib.Core.List.{List, [], _∷_}
-use Prim.Native.Nat.{ℕ, zero, suc, _+_, _*_, _-_, _/_, _%_, min}
+use mathlib.Core.List.{List}
+use Prim.Native.Nat.{ℕ, _+_, _*_, _-_, _/_, _%_, min}
 use lib.IntN.{ℤ}
-use lib.ListN.{length, take, drop}
-use Rattle.endian.specs.Numbers.{littleEndian}
-use Rattle.signed.specs.TwosComplement.{signedOf}
-
--- "four bytes each", "unsigned, least significant first": the number of the four bytes from an offset on
-abbrev pub numberAt : List ℕ → ℕ → ℕ
-numberAt bytes at = littleEndian (take 4 (drop at bytes))
+use lib.ListN.{length}
+use Rattle.numbers.specs.FourBytes.{numberAt, valuesFrom}
 
 -- "bytes 0 to 3 are W"
 abbrev pub widthOf : List ℕ → ℕ
@@ -18,12 +13,7 @@ widthOf bytes = numberAt bytes 0
 abbrev pub wordsOf : List ℕ → ℕ
 wordsOf bytes = min (numberAt bytes 4) 8192
 
--- "then values, four bytes each, two's complement": n of them, from an offset on
-unfoldable pub valuesFrom : (n at : ℕ) → List ℕ → List ℤ
-valuesFrom zero at bytes = []
-valuesFrom (suc n) at bytes = signedOf (numberAt bytes at) ∷ valuesFrom n (at + 4) bytes
-
--- how many have all their four bytes
+-- "then values, four bytes each, two's complement": how many have all their four bytes
 abbrev pub countOf : List ℕ → ℕ
 countOf bytes = (length bytes - 8) / 4
 

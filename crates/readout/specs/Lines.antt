@@ -1,7 +1,7 @@
--- The lines that the limiter prints; the quotes are from its description, at the head of Output. The parts of a line stand a space apart, and it ends with a line feed, as in the stream
--- program.
-use mathlib.Core.List.{List, [], _∷_, _++_}
-use Prim.Native.Nat.{ℕ, zero, suc}
+-- The lines that the limiter prints, but for `stop`, which is `text Stops.stopLines`; the quotes are from its description, at the head of Output. The parts of a line stand a space apart,
+-- and it ends with a line feed, as in the stream program.
+use mathlib.Core.List.{List, _∷_, _++_}
+use Prim.Native.Nat.{ℕ}
 use Rattle.history.specs.Replies.{Told}
 use Rattle.text.specs.Writing.{decimalOf}
 use Rattle.text.specs.Parts.{spaced, newline, replyText}
@@ -17,15 +17,6 @@ openLine t = 111 ∷ 112 ∷ 101 ∷ 110 ∷ spaced (replyText t ++ newline)
 -- "per value its running number from 1 and the reply, and after acceptance the least value and its place"
 abbrev pub valueLine : ℕ → Told → List ℕ
 valueLine number t = decimalOf number ++ spaced (replyText t ++ newline)
-
--- "`stop` and their byte offset"
-abbrev pub stopLine : ℕ → List ℕ
-stopLine offset = 115 ∷ 116 ∷ 111 ∷ 112 ∷ spaced (decimalOf offset ++ newline)
-
--- "where one to three bytes are left"
-abbrev pub stopLines : (left offset : ℕ) → List ℕ
-stopLines zero offset = []
-stopLines (suc more) offset = stopLine offset
 
 -- "finally `end` with values read and values accepted"
 abbrev pub endLine : ℕ → ℕ → List ℕ

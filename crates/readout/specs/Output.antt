@@ -13,8 +13,9 @@ use lib.ListN.{length, take}
 use Rattle.history.specs.Replies.{Told, acceptances}
 use Rattle.runs.specs.Lists.{repliesOf}
 use Rattle.text.specs.Numbered.{linesFrom}
+use Rattle.text.specs.Stops.{stopLines}
 use Rattle.window.specs.Windows.{Stepped, opening, model}
-use Rattle.readout.specs.Lines.{noWindowLine, openLine, valueLine, stopLines, endLine}
+use Rattle.readout.specs.Lines.{noWindowLine, openLine, valueLine, endLine}
 use Rattle.readout.specs.Input.{widthOf, wordsOf, valuesOf, leftOf, endOf}
 
 -- "per value its running number", here from n on: a line for each value, of what it is told

@@ -5,9 +5,10 @@ ghost use mathlib.Core.Path.{_≡_};
 ghost use Prim.Native.Nat.{_+_, _*_, _<_, _≤_, min};
 ghost use lib.ListN.{length, take};
 ghost use Rattle.io.specs.Counts.{Counts};
-ghost use Rattle.readout.specs.Input.{numberAt, countOf};
+ghost use Rattle.readout.specs.Input.{countOf};
 ghost use Rattle.readout.specs.Output.{printed, printedOf, outputOf};
 ghost use Rattle.readout.specs.Private.{Performs, Follows};
+use numbers::number_at;
 use window::Window;
 
 // How far the values have been followed: the session, how many were accepted, and how many bytes are written.
@@ -15,14 +16,6 @@ struct Progress {
     session: Window,
     accepted: usize,
     used: usize,
-}
-
-// The number of the four bytes from an offset on.
-fn number_at(bytes: &[u8], at: usize) -> u32
-    requires { ⌜ at + 4 ≤ length (now bytes) ⌝ }
-    ensures { λ r. ⌜ r ≡ numberAt (now (bytes .entry)) at ⌝ }
-{
-    endian::little_endian(&bytes[at..at + 4])
 }
 
 // The number of words to lend, of which there are no more than 8,192.
@@ -70,7 +63,7 @@ fn follow(
     };
     let mut i = 0;
     while i < count {
-        let v = signed::signed_of(number_at(bytes, 8 + 4 * i));
+        let v = numbers::value_at(bytes, 8 + 4 * i);
         i += 1;
         progress = perform(progress, area, i, v, out);
     }
@@ -89,7 +82,7 @@ fn run(bytes: &[u8], area: &mut [u64], out: &mut [u8]) -> usize
     let behind = bytes.len() - 8;
     let count = behind / 4;
     let progress = follow(bytes, count, area, session, out, start);
-    let stopped = lines::stop(out, progress.used, behind % 4, 8 + 4 * count);
+    let stopped = text::put_stop(out, progress.used, behind % 4, 8 + 4 * count);
     lines::end(out, stopped, count, progress.accepted)
 }
 

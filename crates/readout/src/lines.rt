@@ -3,7 +3,7 @@ ghost use Prim.Native.Nat.{_+_, _<_, _≤_};
 ghost use lib.ListN.{length};
 ghost use Rattle.history.specs.Replies.{told};
 ghost use Rattle.text.specs.Writing.{Adds};
-ghost use Rattle.readout.specs.Lines.{noWindowLine, openLine, valueLine, stopLines, endLine};
+ghost use Rattle.readout.specs.Lines.{noWindowLine, openLine, valueLine, endLine};
 use history::Reply;
 use text::put;
 use text::put_number;
@@ -35,18 +35,6 @@ pub fn value(out: &mut [u8], used: usize, n: usize, reply: Reply) -> usize
     let space = put(out, number, b" ");
     let said = put_reply(out, space, reply);
     put(out, said, b"\n")
-}
-
-// The line of the bytes that are left at an offset, where there are any.
-pub fn stop(out: &mut [u8], used: usize, left: usize, offset: usize) -> usize
-    requires { ⌜ used + 26 ≤ length (now out) ⌝ }
-    ensures { λ r. ⌜ Adds (now (out .entry)) used (stopLines left offset) (now (out .exit)) r × (r ≤ used + 26) ⌝ }
-{
-    if left == 0 {
-        return used;
-    }
-    let number = put_numbered(out, used, b"stop ", offset as u64);
-    put(out, number, b"\n")
 }
 
 pub fn end(out: &mut [u8], used: usize, read: usize, accepted: usize) -> usize

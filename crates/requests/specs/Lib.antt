@@ -1,3 +1,4 @@
 pub mod Witness
 pub mod Private
 pub mod Limiter
+pub mod Lookup

@@ -1,5 +1,5 @@
 // The theorems of document 02's points, cited under their statements and used clause by clause, of the functions as they stand in the source (proofs/). The code here makes runs of the
-// window, so that the claim over all of them speaks of something, and writes an example of the limiter's output.
+// window, so that the claim over all of them speaks of something, and writes an example of the limiter's output and of `lookup`'s.
 ghost use mathlib.Core.Path.{_≡_};
 ghost use lib.ListN.{length, take};
 ghost use Rattle.window.specs.Windows.{sessionOf, blank};
@@ -7,6 +7,7 @@ ghost use Rattle.window.specs.Contracts.{Opens, Does};
 ghost use Rattle.requests.specs.Witness.{asked, leaving, lines, sessionLeft, unopened, RunExists};
 ghost use Rattle.requests.specs.Private.{Valued};
 ghost use Rattle.requests.specs.Limiter.{output};
+ghost use Rattle.requests.specs.Lookup.{found};
 use window::Window;
 
 // The calls of `Witness.leaving`. The first is lent no words.
@@ -77,4 +78,42 @@ pub fn limiter_example(out: &mut [u8; 540710]) -> usize
         0,
     ];
     readout::write(&bytes, out)
+}
+
+// The whole output of `lookup` for the values 5 and −3, an index of one entry and a search of both.
+pub fn lookup_example(out: &mut [u8; 300532]) -> usize
+    ensures { λ r. ⌜ take r (now (out .exit)) ≡ found ⌝ }
+{
+    let bytes = [
+        2,
+        0,
+        0,
+        0,
+        5,
+        0,
+        0,
+        0,
+        253,
+        255,
+        255,
+        255,
+        1,
+        0,
+        0,
+        0,
+        1,
+        0,
+        0,
+        0,
+        0,
+        1,
+        0,
+        0,
+        0,
+        0,
+        0,
+        0,
+        0,
+    ];
+    listing::write(&bytes, out)
 }

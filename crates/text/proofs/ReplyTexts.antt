@@ -1,25 +1,25 @@
--- The text of a reply, with or without a minimum, and how large its number is at most.
+-- The text of a reply, with or without what it shows, and how large its number is at most.
 use mathlib.Core.Path.{_≡_}
 use mathlib.Core.List.{List, append-nil}
 use mathlib.Core.Option.{none, some}
 use Prim.Native.Nat.{ℕ, _<_}
 use native.Mathlib.Omega.{arith}
-use Rattle.history.specs.declared.Minimum.{Minimum}
 use Rattle.history.specs.declared.Refusal.{Refusal}
 use Rattle.history.specs.declared.Reply.{Reply}
-use Rattle.history.specs.Replies.{Told, numberOf, told}
+use Rattle.history.specs.Replies.{ToldOf, numberOf, told}
 use Rattle.text.specs.Writing.{Adds, decimalOf}
-use Rattle.text.specs.Parts.{minimumText, replyText}
+use Rattle.text.specs.Parts.{toldText}
 use Rattle.text.proofs.Texts.{then}
 
--- the text of a reply that shows no minimum
-pub bare : {a b : List ℕ} (t : Told) {n u v : ℕ} → n ≡ t .number → t .shown ≡ none → Adds a u (decimalOf n) b v → Adds a u (replyText t) b v
-bare t e s f = rw (s, ← e) (rw append-nil f)
+module _ {Shown : Type 0} (text : Shown → List ℕ) (t : ToldOf Shown) where
+  -- the text of a reply that shows nothing
+  pub bare : {a b : List ℕ} {n u v : ℕ} → n ≡ t .number → t .shown ≡ none → Adds a u (decimalOf n) b v → Adds a u (toldText text t) b v
+  bare e s f = rw (s, ← e) (rw append-nil f)
 
--- the text of a reply that shows one
-pub shows : {a b c : List ℕ} (t : Told) {n u v w : ℕ} {m : Minimum} → n ≡ t .number → t .shown ≡ some m → Adds a u (decimalOf n) b v → Adds b v (minimumText m) c w
-    → Adds a u (replyText t) c w
-shows t e s f g = rw (s, ← e) (then f g)
+  -- the text of one that shows something
+  pub shows : {a b c : List ℕ} {n u v w : ℕ} {shown : Shown} → n ≡ t .number → t .shown ≡ some shown → Adds a u (decimalOf n) b v → Adds b v (text shown) c w
+      → Adds a u (toldText text t) c w
+  shows e s f g = rw (s, ← e) (then f g)
 
 -- no refusal's number has more than two digits
 number-few : (why : Refusal) → numberOf why < 100

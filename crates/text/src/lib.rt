@@ -1,10 +1,12 @@
-// Text, written from left to right into bytes that are lent: bytes, numbers, signed values and replies. Nothing here knows what line they stand in.
+// Text, written from left to right into bytes that are lent: bytes, numbers, signed values and replies. Nothing here knows what line they stand in, but for the one line that two programs
+// share.
 ghost use mathlib.Core.List.{_++_};
 ghost use Prim.Native.Nat.{_+_, _≤_};
 ghost use lib.ListN.{length};
 ghost use Rattle.history.specs.Replies.{told};
 ghost use Rattle.text.specs.Writing.{Adds, decimalOf, signedText};
-ghost use Rattle.text.specs.Parts.{minimumText, replyText};
+ghost use Rattle.text.specs.Parts.{valueText, minimumText, replyText};
+ghost use Rattle.text.specs.Stops.{stopLines};
 use history::Minimum;
 use history::Reply;
 
@@ -50,13 +52,21 @@ pub fn put_signed(out: &mut [u8], used: usize, v: i32) -> usize
     put_number(out, used, signed::magnitude(v))
 }
 
+// A value behind a space.
+pub fn put_value(out: &mut [u8], used: usize, v: i32) -> usize
+    requires { ⌜ used + 12 ≤ length (now out) ⌝ }
+    ensures { λ r. ⌜ Adds (now (out .entry)) used (valueText v) (now (out .exit)) r × (r ≤ used + 12) ⌝ }
+{
+    let space = put(out, used, b" ");
+    put_signed(out, space, v)
+}
+
 // A minimum: its value and its place, each behind a space.
 pub fn put_minimum(out: &mut [u8], used: usize, minimum: Minimum) -> usize
     requires { ⌜ used + 23 ≤ length (now out) ⌝ }
     ensures { λ r. ⌜ Adds (now (out .entry)) used (minimumText minimum) (now (out .exit)) r × (r ≤ used + 23) ⌝ }
 {
-    let space = put(out, used, b" ");
-    let value = put_signed(out, space, minimum.value);
+    let value = put_value(out, used, minimum.value);
     let place = minimum.place;
     put_numbered(out, value, b" ", place.0 as u64)
 }
@@ -72,4 +82,16 @@ pub fn put_reply(out: &mut [u8], used: usize, reply: Reply) -> usize
         Reply::Accepted => number,
         Reply::Refused(_) => number,
     }
+}
+
+// The line of the bytes that are left at an offset, where there are any.
+pub fn put_stop(out: &mut [u8], used: usize, left: usize, offset: usize) -> usize
+    requires { ⌜ used + 26 ≤ length (now out) ⌝ }
+    ensures { λ r. ⌜ Adds (now (out .entry)) used (stopLines left offset) (now (out .exit)) r × (r ≤ used + 26) ⌝ }
+{
+    if left == 0 {
+        return used;
+    }
+    let number = put_numbered(out, used, b"stop ", offset as u64);
+    put(out, number, b"\n")
 }

@@ -1,13 +1,12 @@
 -- `readout::follow` meets its contract. The loop's invariant: the calls made so far are those of the first i values, in turn, and the lines written are theirs. The measure is how many values
 -- are left.
 use borrow.Author.Needs.{needs, sfits-of}
-use mathlib.Core.Path.{_≡_, ap, _∙_}
+use mathlib.Core.Path.{_≡_}
 use Prim.Native.Nat.{_-_}
 use native.Mathlib.Omega.{arith}
 use mir.Syntax.{w32}
 use mir.Val.{toZ, ofZ}
 use mir.Facts.{toZ-ofZ}
-use Rattle.signed.specs.TwosComplement.{signedOf}
 use Rattle.readout.proofs.Values.{Reached, reached-start, reached-more, reached-end}
 use Rattle.readout.proofs.follow.Statement.{statement}
 use Rattle.readout.proofs.follow.Tie as tie
@@ -23,27 +22,24 @@ loop-holds c =
     let a = c .before .before .before .args in
     reached-start (a .bytes .now) (a .area .now) (a .out .now) (a .start) (a .session)
 
-mul-number-at : tie.Need-mul-number-at Inv-loop μ-loop
-mul-number-at c = search needs
+mul-value-at : tie.Need-mul-value-at Inv-loop μ-loop
+mul-value-at c = search needs
 
-add-number-at : tie.Need-add-number-at Inv-loop μ-loop
-add-number-at c = search needs
+add-value-at : tie.Need-add-value-at Inv-loop μ-loop
+add-value-at c = search needs
 
-number-at-requires : tie.Need-number-at-requires Inv-loop μ-loop
-number-at-requires c κs =
+value-at-requires : tie.Need-value-at-requires Inv-loop μ-loop
+value-at-requires c κs =
     let l = c .before in
     let s = l .before .before .before .before in
     omega (arith, c .loop-test .taken, s .pre .0)
-
-signed-of-requires : tie.Need-signed-of-requires Inv-loop μ-loop
-signed-of-requires c κs = search needs
 
 add-i : tie.Need-add-i Inv-loop μ-loop
 add-i c = search needs
 
 perform-requires : tie.Need-perform-requires Inv-loop μ-loop
 perform-requires c κs =
-    let t = c .before .before .before .before in
+    let t = c .before .before .before in
     let l = t .before in
     let s = l .before .before .before .before in
     let v = l .loop .inv in
@@ -56,11 +52,11 @@ loop-again : tie.Need-loop-again Inv-loop μ-loop
 loop-again c =
     let p = c .before .before .before .before in
     let g = p .before .before .before in
-    let t = g .before .before in
+    let t = g .before in
     let l = t .before in
     let s = l .before .before .before .before in
-    let e : toZ w32 (ofZ w32 (g .signed-of .result)) ≡ g .signed-of .result = toZ-ofZ (sfits-of (g .signed-of .ok)) in
-    reached-more (l .loop .inv) (omega (arith, t .loop-test .taken, s .pre .0)) (g .signed-of .ensures ∙ ap signedOf (g .before .number-at .ensures))
+    let e : toZ w32 (ofZ w32 (g .value-at .result)) ≡ g .value-at .result = toZ-ofZ (sfits-of (g .value-at .ok)) in
+    reached-more (l .loop .inv) (omega (arith, t .loop-test .taken, s .pre .0)) (g .value-at .ensures)
     (rw e at (p .perform .ensures))
 
 same-length : tie.Need-same-length Inv-loop μ-loop
@@ -82,10 +78,9 @@ follow-spec =
     Inv-loop
     μ-loop
     loop-holds
-    mul-number-at
-    add-number-at
-    number-at-requires
-    signed-of-requires
+    mul-value-at
+    add-value-at
+    value-at-requires
     add-i
     perform-requires
     loop-less

@@ -30,14 +30,14 @@ follow-requires c κs =
     let s = o .before .before .before .before .before .before in
     (search needs, s .pre .1, omega (arith, s .pre .2, h .opening .ensures .1, h .opening .ensures .0 .long))
 
-mul-stop : tie.Need-mul-stop
-mul-stop c = search needs
+mul-put-stop : tie.Need-mul-put-stop
+mul-put-stop c = search needs
 
-add-stop : tie.Need-add-stop
-add-stop c = search needs
+add-put-stop : tie.Need-add-put-stop
+add-put-stop c = search needs
 
-stop-requires : tie.Need-stop-requires
-stop-requires c κs =
+put-stop-requires : tie.Need-put-stop-requires
+put-stop-requires c κs =
     let f = c .before .before .before .before .before in
     let h = f .before .before .before .before .before in
     let o = h .before .before .before .before .before in
@@ -58,8 +58,8 @@ end-requires c κs =
       h .opening .ensures .0 .long,
       f .follow .ensures .fits,
       f .follow .ensures .prints .long,
-      g .stop .ensures .1,
-      g .stop .ensures .0 .long,
+      g .put-stop .ensures .1,
+      g .put-stop .ensures .0 .long,
     )
 
 same-length : tie.Need-same-length
@@ -77,7 +77,7 @@ returns c =
     let o = h .before .before .before .before .before in
     let n = o .before in
     let s = n .before .before .before .before .before in (
-      whole (rw (n .number-at .ensures) at (o .«open» .ensures)) (f .follow .ensures) (h .opening .ensures .0) (g .stop .ensures .0) (e .end .ensures .0),
+      whole (rw (n .number-at .ensures) at (o .«open» .ensures)) (f .follow .ensures) (h .opening .ensures .0) (g .put-stop .ensures .0) (e .end .ensures .0),
       counted (e .end .result) (e .end .last .0)
           (omega (
             arith,
@@ -86,8 +86,8 @@ returns c =
             h .opening .ensures .0 .long,
             f .follow .ensures .fits,
             f .follow .ensures .prints .long,
-            g .stop .ensures .1,
-            g .stop .ensures .0 .long,
+            g .put-stop .ensures .1,
+            g .put-stop .ensures .0 .long,
             e .end .ensures .1,
             e .end .ensures .0 .long,
           )),
@@ -103,9 +103,9 @@ run-spec =
     opening-requires
     sub-behind
     follow-requires
-    mul-stop
-    add-stop
-    stop-requires
+    mul-put-stop
+    add-put-stop
+    put-stop-requires
     end-requires
     same-length
     same-length-2

@@ -1,4 +1,4 @@
--- `text::put_minimum` meets its contract: the texts that are put one after the other are those of the value and the place. A place has no more than ten digits.
+-- `text::put_minimum` meets its contract: the texts of the value and of the place are put one after the other. A place has no more than ten digits.
 use borrow.Author.Needs.{needs}
 use Prim.Native.Nat.{_≤_}
 use native.Mathlib.Omega.{arith}
@@ -20,16 +20,8 @@ fits c = search needs
 few : (c : tie.Start) → length (decimalOf (c .args .minimum .place .0)) ≤ 10
 few c = within 20 9 (c .args .minimum .place .0) (search needs)
 
-slice-aggregate-put : tie.Need-slice-aggregate-put
-slice-aggregate-put c = search needs
-
-put-requires : tie.Need-put-requires
-put-requires c κs = search needs
-
-put-signed-requires : tie.Need-put-signed-requires
-put-signed-requires c κs =
-    let p = c .before .before .before .before in
-    omega (arith, p .before .before .before .before .pre, p .put .ensures .counts, p .put .ensures .long)
+put-value-requires : tie.Need-put-value-requires
+put-value-requires c κs = search needs
 
 slice-aggregate-put-numbered : tie.Need-slice-aggregate-put-numbered
 slice-aggregate-put-numbered c = search needs
@@ -40,9 +32,8 @@ cast-put-numbered c = search needs
 put-numbered-requires : tie.Need-put-numbered-requires
 put-numbered-requires c κs =
     let v = c .before .before .before .before .before .before in
-    let p = v .before .before .before .before .before in
-    let s = p .before .before .before .before in
-    omega (arith, s .pre, p .put .ensures .counts, p .put .ensures .long, v .put-signed .ensures .0 .long, v .put-signed .ensures .1, few s)
+    let s = v .before .before .before .before in
+    omega (arith, s .pre, v .put-value .ensures .0 .long, v .put-value .ensures .1, few s)
 
 same-length : tie.Need-same-length
 same-length c = search needs
@@ -51,19 +42,16 @@ returns : tie.Need-returns
 returns c =
     let n = c .before .before in
     let v = n .before .before .before .before .before .before .before in
-    let p = v .before .before .before .before .before in
-    let s = p .before .before .before .before in (
-      then (p .put .ensures) (then (simp (toZ-ofZ, fits s) at (v .put-signed .ensures .0)) (n .put-numbered .ensures)),
-      omega (arith, p .put .ensures .counts, v .put-signed .ensures .1, n .put-numbered .ensures .counts, few s),
+    let s = v .before .before .before .before in (
+      then (simp (toZ-ofZ, fits s) at (v .put-value .ensures .0)) (n .put-numbered .ensures),
+      omega (arith, v .put-value .ensures .1, n .put-numbered .ensures .counts, few s),
     )
 
 pub put-minimum-spec : {M : Type 1} → statement M
 put-minimum-spec =
     tie.close
     (tie.spec
-    slice-aggregate-put
-    put-requires
-    put-signed-requires
+    put-value-requires
     slice-aggregate-put-numbered
     cast-put-numbered
     put-numbered-requires

@@ -7,6 +7,7 @@ use lib.ListN.{length}
 use Rattle.history.specs.declared.Reply.{Reply}
 use Rattle.history.specs.Replies.{told}
 use Rattle.text.specs.Writing.{decimalOf}
+use Rattle.text.specs.Parts.{minimumText}
 use Rattle.text.proofs.Decimals.{within}
 use Rattle.text.proofs.ReplyTexts.{bare, shows}
 use Rattle.text.proofs.put_reply.Statement.{statement}
@@ -42,7 +43,7 @@ returns c =
     let m = c .before .before in
     let r = m .before .before .before in
     let n = r .before .before .before .before in (
-      shows _ (n .before .reply-number .ensures) (ap (λ (r : Reply). told r .shown) (r .reply .given .1)) (n .put-number .ensures) (m .put-minimum .ensures .0),
+      shows minimumText _ (n .before .reply-number .ensures) (ap (λ (r : Reply). told r .shown) (r .reply .given .1)) (n .put-number .ensures) (m .put-minimum .ensures .0),
       omega (arith, few (n .before), n .put-number .ensures .counts, m .put-minimum .ensures .1),
     )
 
@@ -55,7 +56,7 @@ same-length-2 c = search needs
 returns-2 : tie.Need-returns-2
 returns-2 c =
     let n = c .before .before .before .before in
-    (bare _ (n .before .reply-number .ensures) (ap (λ (r : Reply). told r .shown) (c .enum-told .given .1)) (n .put-number .ensures), omega (arith, few (n .before), n .put-number .ensures .counts))
+    (bare minimumText _ (n .before .reply-number .ensures) (ap (λ (r : Reply). told r .shown) (c .enum-told .given .1)) (n .put-number .ensures), omega (arith, few (n .before), n .put-number .ensures .counts))
 
 enum-told-2 : tie.Need-enum-told-2
 enum-told-2 c = search needs
@@ -66,7 +67,7 @@ same-length-3 c = search needs
 returns-3 : tie.Need-returns-3
 returns-3 c =
     let n = c .before .before .before .before in
-    (bare _ (n .before .reply-number .ensures) (ap (λ (r : Reply). told r .shown) (c .enum-told2 .given .1)) (n .put-number .ensures), omega (arith, few (n .before), n .put-number .ensures .counts))
+    (bare minimumText _ (n .before .reply-number .ensures) (ap (λ (r : Reply). told r .shown) (c .enum-told2 .given .1)) (n .put-number .ensures), omega (arith, few (n .before), n .put-number .ensures .counts))
 
 pub put-reply-spec : {M : Type 1} → statement M
 put-reply-spec =

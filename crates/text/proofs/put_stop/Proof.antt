@@ -1,14 +1,14 @@
--- `readout::lines::stop` meets its contract: where no bytes are left nothing is written; else the texts that are put one after the other are those of the line, and a number has no more than
+-- `text::put_stop` meets its contract: where no bytes are left nothing is written; else the texts that are put one after the other are those of the line, and a number has no more than
 -- twenty digits.
 use borrow.Author.Needs.{needs}
 use mathlib.Core.Path.{_≡_, refl}
 use Prim.Native.Nat.{ℕ, zero, suc}
 use native.Mathlib.Omega.{arith}
 use Rattle.text.proofs.Decimals.{capped}
 use Rattle.text.proofs.Texts.{nothing, then}
-use Rattle.readout.specs.Lines.{stopLine, stopLines}
-use Rattle.readout.proofs.lines.stop.Statement.{statement}
-use Rattle.readout.proofs.lines.stop.Tie as tie
+use Rattle.text.specs.Stops.{stopLine, stopLines}
+use Rattle.text.proofs.put_stop.Statement.{statement}
+use Rattle.text.proofs.put_stop.Tie as tie
 
 -- there is one line where there are some bytes
 one : (left offset : ℕ) → (left ≡ 0 → ⊥) → stopLines left offset ≡ stopLine offset
@@ -50,8 +50,8 @@ returns-2 c =
       omega (arith, a .put-numbered .ensures .counts, e .put .ensures .counts, capped 20 (s .args .offset)),
     )
 
-pub stop-spec : {M : Type 1} → statement M
-stop-spec =
+pub put-stop-spec : {M : Type 1} → statement M
+put-stop-spec =
     tie.close
     (tie.spec
     returns

@@ -1,12 +1,12 @@
--- `readout::number_at` meets its contract: the part that is lent is the four bytes from the offset on.
+-- `numbers::number_at` meets its contract: the part that is lent is the four bytes from the offset on.
 use borrow.Author.Needs.{needs}
 use mathlib.Core.Path.{_≡_, ap, _∙_}
 use Prim.Native.Nat.{ℕ, _+_, _-_}
 use native.Mathlib.Omega.{arith}
 use lib.ListN.{take, drop, length-take}
 use Rattle.endian.specs.Numbers.{littleEndian}
-use Rattle.readout.proofs.number_at.Statement.{statement}
-use Rattle.readout.proofs.number_at.Tie as tie
+use Rattle.numbers.proofs.number_at.Statement.{statement}
+use Rattle.numbers.proofs.number_at.Tie as tie
 
 add-little-endian : tie.Need-add-little-endian
 add-little-endian c = search needs

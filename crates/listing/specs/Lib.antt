@@ -1,0 +1,6 @@
+pub mod Lines
+pub mod Input
+pub mod Output
+pub mod Choices
+pub mod Private
+pub mod Examples

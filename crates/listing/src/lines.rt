@@ -1,0 +1,128 @@
+// The lines that `lookup` prints, each written behind the bytes that are written already, where there is room for the longest such line.
+ghost use mathlib.Core.Path.{_≡_};
+ghost use Prim.Native.Nat.{_+_, _*_, _<_, _≤_};
+ghost use lib.ListN.{length};
+ghost use Rattle.blocks.specs.Takes.{told};
+ghost use Rattle.text.specs.Writing.{Adds};
+ghost use Rattle.listing.specs.Lines.{noTakeLine, foundText, replyText, buildLine, indexLine, searchLine, endsText, stretchLine, setLine, endLine};
+use blocks::Found;
+use blocks::Reply;
+use text::put;
+use text::put_number;
+use text::put_numbered;
+use text::put_value;
+
+pub fn no_take(out: &mut [u8], used: usize) -> usize
+    requires { ⌜ used + 8 ≤ length (now out) ⌝ }
+    ensures { λ r. ⌜ Adds (now (out .entry)) used noTakeLine (now (out .exit)) r × (r ≤ used + 8) ⌝ }
+{
+    put(out, used, b"no take\n")
+}
+
+// A reply's number: 0 of an acceptance.
+fn reply_number(reply: Reply) -> u8
+    ensures { λ r. ⌜ r ≡ told reply .number ⌝ }
+{
+    match reply {
+        Reply::Accepted => 0,
+        Reply::Lowest(_) => 0,
+        Reply::Refused(why) => history::number(why),
+    }
+}
+
+// What is found: its value and its place, each behind a space.
+fn found(out: &mut [u8], used: usize, found: Found) -> usize
+    requires { ⌜ used + 33 ≤ length (now out) ⌝ }
+    ensures { λ r. ⌜ Adds (now (out .entry)) used (foundText found) (now (out .exit)) r × (r ≤ used + 33) ⌝ }
+{
+    let value = put_value(out, used, found.value);
+    let place = found.place;
+    put_numbered(out, value, b" ", place.0 as u64)
+}
+
+// A reply: its number, and what it shows, if anything.
+fn reply(out: &mut [u8], used: usize, reply: Reply) -> usize
+    requires { ⌜ used + 36 ≤ length (now out) ⌝ }
+    ensures { λ r. ⌜ Adds (now (out .entry)) used (replyText (told reply)) (now (out .exit)) r × (r ≤ used + 36) ⌝ }
+{
+    let number = put_number(out, used, reply_number(reply) as u64);
+    match reply {
+        Reply::Lowest(lowest) => found(out, number, lowest),
+        Reply::Accepted => number,
+        Reply::Refused(_) => number,
+    }
+}
+
+pub fn build(out: &mut [u8], used: usize, replied: Reply) -> usize
+    requires { ⌜ used + 43 ≤ length (now out) ⌝ }
+    ensures { λ r. ⌜ Adds (now (out .entry)) used (buildLine (told replied)) (now (out .exit)) r × (r ≤ used + 43) ⌝ }
+{
+    let word = put(out, used, b"build ");
+    let said = reply(out, word, replied);
+    put(out, said, b"\n")
+}
+
+// The line of an index: each entry has no more than eleven bytes, and a space before it.
+pub fn index(out: &mut [u8], used: usize, entries: &[i32]) -> usize
+    requires { ⌜ used + 12 * length (now entries) + 6 ≤ length (now out) ⌝ }
+    ensures { λ r. ⌜ Adds (now (out .entry)) used (indexLine (now (entries .entry))) (now (out .exit)) r × (r ≤ used + 12 * length (now (entries .entry)) + 6) ⌝ }
+{
+    let mut written = put(out, used, b"index");
+    let mut i = 0;
+    while i < entries.len() {
+        written = put_value(out, written, entries[i]);
+        i += 1;
+    }
+    put(out, written, b"\n")
+}
+
+// The line of the n-th request, a search. A running number has no more than five digits.
+pub fn search(out: &mut [u8], used: usize, n: usize, replied: Reply) -> usize
+    requires { ⌜ (n < 100000) × (used + 50 ≤ length (now out)) ⌝ }
+    ensures { λ r. ⌜ Adds (now (out .entry)) used (searchLine n (told replied)) (now (out .exit)) r × (r ≤ used + 50) ⌝ }
+{
+    let number = put_number(out, used, n as u64);
+    let word = put(out, number, b" search ");
+    let said = reply(out, word, replied);
+    put(out, said, b"\n")
+}
+
+// The first and the last of some values, where there are any.
+fn ends(out: &mut [u8], used: usize, part: &[i32]) -> usize
+    requires { ⌜ used + 24 ≤ length (now out) ⌝ }
+    ensures { λ r. ⌜ Adds (now (out .entry)) used (endsText (now (part .entry))) (now (out .exit)) r × (r ≤ used + 24) ⌝ }
+{
+    if part.len() == 0 {
+        return used;
+    }
+    let first = put_value(out, used, part[0]);
+    put_value(out, first, part[part.len() - 1])
+}
+
+// The line of the n-th request, a stretch.
+pub fn stretch(out: &mut [u8], used: usize, n: usize, part: &[i32]) -> usize
+    requires { ⌜ (n < 100000) × (used + 59 ≤ length (now out)) ⌝ }
+    ensures { λ r. ⌜ Adds (now (out .entry)) used (stretchLine n (now (part .entry))) (now (out .exit)) r × (r ≤ used + 59) ⌝ }
+{
+    let number = put_number(out, used, n as u64);
+    let long = put_numbered(out, number, b" stretch ", part.len() as u64);
+    let shown = ends(out, long, part);
+    put(out, shown, b"\n")
+}
+
+// The line of the n-th request, a `set`.
+pub fn set(out: &mut [u8], used: usize, n: usize) -> usize
+    requires { ⌜ (n < 100000) × (used + 10 ≤ length (now out)) ⌝ }
+    ensures { λ r. ⌜ Adds (now (out .entry)) used (setLine n) (now (out .exit)) r × (r ≤ used + 10) ⌝ }
+{
+    let number = put_number(out, used, n as u64);
+    put(out, number, b" set\n")
+}
+
+pub fn end(out: &mut [u8], used: usize, read: usize) -> usize
+    requires { ⌜ used + 25 ≤ length (now out) ⌝ }
+    ensures { λ r. ⌜ Adds (now (out .entry)) used (endLine read) (now (out .exit)) r × (r ≤ used + 25) ⌝ }
+{
+    let number = put_numbered(out, used, b"end ", read as u64);
+    put(out, number, b"\n")
+}
