@@ -273,16 +273,14 @@ fn quickest(mut all: Vec<f64>) -> (f64, f64) {
     (all[0], all[all.len() / 2])
 }
 
-// How many ranges a round of a side has: fewer where a scan takes long.
+// How many ranges a round of a side has: the same for all sides, but that the whole take is one range, which is searched several times where that is short.
 fn count_of(side: &str, length: usize) -> usize {
     match (side, length) {
         (_, 100) => 10_000,
-        ("ours" | "table", 10_000) => 10_000,
-        (_, 10_000) => 500,
-        ("ours", 1_000_000) => 1000,
+        (_, 10_000) => 2000,
+        (_, 1_000_000) => 100,
         ("ours", _) => 100,
         ("table", _) => 10_000,
-        (_, 1_000_000) => 10,
         _ => 1,
     }
 }
