@@ -1,14 +1,16 @@
 /*
  * Filkotar for C firmware. This header declares the functions of libfilkotar.a, which tools/library builds for x86-64 (System V calling convention).
  *
- * Each function is proved to keep the promise beside it, and to return, whatever numbers it is handed and whatever stands in the words that it is lent;
- * README.md says what the proof rests on. It writes no memory but its own stack, its answer and those words, and keeps nothing else between calls. The
- * library needs no other.
+ * Each function is proved to keep the promise beside it, and to return, whatever numbers it is handed and whatever stands in the arrays that it is lent;
+ * README.md says what the proof rests on. It writes no memory but its own stack, its answer and, of those arrays, what the promise says, and keeps nothing
+ * else between calls. The library needs no other.
  *
  * What a call takes, beside its arguments, its answer and its return address:
  *
  *                              bytes of stack    of these below the stack pointer    registers other than the general ones
+ *     filkotar_build           48                0                                   xmm0 xmm1 xmm2 xmm3 xmm4
  *     filkotar_gain            488               128                                 xmm0
+ *     filkotar_search          40                0                                   xmm0 xmm1 xmm2 xmm3 xmm4
  *     filkotar_window_open     0                 0                                   none
  *     filkotar_window_value    40                0                                   none
  *
@@ -86,7 +88,6 @@ FILKOTAR_SAME(__builtin_offsetof(filkotar_window_answer, number), 24);
 FILKOTAR_SAME(__builtin_offsetof(filkotar_window_answer, value), 28);
 FILKOTAR_SAME(__builtin_offsetof(filkotar_window_answer, place), 32);
 #endif
-#undef FILKOTAR_SAME
 #endif
 
 /*
@@ -117,6 +118,68 @@ filkotar_window_answer filkotar_window_open(uint64_t *area, uint64_t length, uin
  * words, returns, and gives the number and the session above; value and place may then be any.
  */
 filkotar_window_answer filkotar_window_value(filkotar_window s, uint64_t *area, uint64_t length, int32_t v);
+
+/*
+ * A stored take: an array of values, take[0] to take[length - 1], that is finished. Beside it stands its index, a second array of yours, which holds the
+ * least value of each block of 64: index[0] of take[0] to take[63], index[1] of take[64] to take[127], and so on. The last block may be shorter. You build
+ * the index once. With it the least value of any range is found without a look at most of the range, and where it stands.
+ *
+ *     static int32_t take[1000], index[16];                            16 is (1000 + 63) / 64
+ *     if (filkotar_build(take, 1000, index, 16) == 0) {
+ *         filkotar_found f = filkotar_search(take, 1000, index, 16, 100, 699);
+ *         ...                                                          f.value is the least of take[100] to take[699], and take[f.place] is where it stands
+ *     }
+ *
+ * The index of a take of `length` values has (length + 63) / 64 entries, as C divides; so none where the take is empty. Where that sum could wrap, work it
+ * out as length / 64 + (length % 64 != 0), which is the same number and never wraps.
+ *
+ * In both calls `take` points to `length` values and `index` to `blocks` entries, and nothing else writes these while the call runs. While an index is
+ * built, take and index do not overlap, and nothing else reads the index. Where `length` is 0, `take` points to none and may be a null pointer; so may
+ * `index` where `blocks` is 0. The part of a take from i to j, to be drawn for example, is `take + i`, of j - i + 1 values: C needs no call for it.
+ */
+typedef struct {
+    uint32_t number; /* 0, or why the search was refused */
+    int32_t value;   /* with number 0, the least value of the range; else 0 */
+    uint64_t place;  /* and where it stands in the take, from 0 on; else 0 */
+} filkotar_found;
+
+#ifdef FILKOTAR_SAME
+FILKOTAR_SAME(sizeof(filkotar_found), 16);
+#ifdef __GNUC__
+FILKOTAR_SAME(__builtin_offsetof(filkotar_found, number), 0);
+FILKOTAR_SAME(__builtin_offsetof(filkotar_found, value), 4);
+FILKOTAR_SAME(__builtin_offsetof(filkotar_found, place), 8);
+#endif
+#undef FILKOTAR_SAME
+#endif
+
+/*
+ * Builds the index of a take, and returns a number. The first line that applies:
+ *
+ *     blocks is not (length + 63) / 64    number 15: nothing is written
+ *     any other                           number 0: the index is built
+ *
+ * With 0, each of the `blocks` entries is written, whatever it held, and nothing else: index[b] is the least of take[64 * b] to take[64 * b + 63], or of
+ * those of them that are in the take. Values may be any, INT32_MIN and INT32_MAX too.
+ */
+uint32_t filkotar_build(const int32_t *take, uint64_t length, int32_t *index, uint64_t blocks);
+
+/*
+ * Searches the range from take[i] to take[j], both included, for its least value. The first line that applies:
+ *
+ *     blocks is not (length + 63) / 64          number 15
+ *     i is above j, or j is not below length    number 14
+ *     any other                                 number 0
+ *
+ * With 15 and 14 value and place are 0. i and j may be any numbers, up to UINT64_MAX.
+ *
+ * With 0, and with an index that filkotar_build wrote for this take, neither of them altered since: value is the least of take[i] to take[j], and place is
+ * where it stands, the latest where it stands at several. So place is from i to j, and value is take[place].
+ *
+ * The call is as safe with an index that holds something else. It stays within the `length` values and the `blocks` entries, returns, and gives the number
+ * above. With 0, place is then one from i to j, but which one, and value, may be any. In no case is the take or the index written.
+ */
+filkotar_found filkotar_search(const int32_t *take, uint64_t length, const int32_t *index, uint64_t blocks, uint64_t i, uint64_t j);
 
 #ifdef __cplusplus
 }

@@ -7,7 +7,6 @@ use lib.IntN.{ℤ}
 use lib.ListN.{length}
 use borrow.Author.Tests.{ne-eqb}
 use Rattle.history.specs.Minima.{lowest}
-use Rattle.blocks.specs.declared.Found.{Found}
 use Rattle.blocks.specs.declared.Reply.{Reply}
 use Rattle.blocks.specs.Takes.{rangeMinimum, blockCount, blockMinimaFrom, blockMinima, searchRefusal, told, answering}
 use Rattle.blocks.specs.Contracts.{Searches}

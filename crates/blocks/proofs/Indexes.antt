@@ -71,6 +71,36 @@ found-in-block values b h =
     let n : 64 * (b + 1) - 64 * b ≡ 64 = omega arith in
     rw n at (handed-on values (64 * b) (64 * (b + 1)) (omega arith) h)
 
+-- the least of the first b blocks is v, and stands in block `at`
+pub record Leading (values : List ℤ) (b at : ℕ) (v : ℤ) : Type 0 where
+  pub some : at < b
+  pub value : v ≡ minimumFrom (blockOf values at) 0 .value
+  pub whole : minimumFrom (take (64 * b) values) 0 ≡ inBlock values at
+
+pub leading-one : (values : List ℤ) (v : ℤ) → 0 < length values → v ≡ minimumFrom (blockOf values 0) 0 .value → Leading values 1 0 v
+leading-one values v h e = record { some = omega arith; value = e; whole = found-in-block values 0 h }
+
+pub leading-more : (values : List ℤ) (b at : ℕ) (v new : ℤ) (t : Bool) → 64 * b < length values → Leading values b at v → new ≡ minimumFrom (blockOf values b) 0 .value
+    → takesOver new v ≡ t → Leading values (b + 1) (cond t b at) (cond t new v)
+leading-more values b at v new t h l e q =
+    let whole : minimumFrom (take (64 * (b + 1)) values) 0 ≡ lowerOf (inBlock values at) (inBlock values b) =
+    joined values 0 (64 * b) (64 * (b + 1)) (omega (arith, l .some)) (omega arith) h
+    ∙ ap (λ (x : Found). lowerOf x (minimumFrom (take (64 * (b + 1)) values) (64 * b))) (l .whole)
+    ∙ ap (lowerOf (inBlock values at)) (found-in-block values b h) in
+    let same : takesOver (inBlock values b .value) (inBlock values at .value) ≡ t =
+    ap (λ (x : ℤ). takesOver x (inBlock values at .value)) (sym e) ∙ ap (takesOver new) (sym (l .value)) ∙ q in
+    go t (whole ∙ ap (λ (x : Bool). cond x (inBlock values b) (inBlock values at)) same)
+  where
+    go : (t : Bool) → minimumFrom (take (64 * (b + 1)) values) 0 ≡ cond t (inBlock values b) (inBlock values at) → Leading values (b + 1) (cond t b at) (cond t new v)
+    go true w = record { some = omega arith; value = e; whole = w }
+    go false w = record { some = omega (arith, l .some); value = l .value; whole = w }
+
+-- of all blocks, and so of all values, with the place in the block
+pub leading-all : (values : List ℤ) (b at p : ℕ) (v : ℤ) → length values ≤ 64 * b → Leading values b at v → p ≡ minimumFrom (blockOf values at) 0 .place .0
+    → record { value = v; place = record { 0 = 64 * at + p } } ≡ minimumFrom values 0
+leading-all values b at p v h l q =
+    (λ x. record { value = l .value x; place = record { 0 = 64 * at + q x } }) ∙ sym (l .whole) ∙ ap (λ (vs : List ℤ). minimumFrom vs 0) (take-all (64 * b) values h)
+
 -- of the blocks from `first` on, n and one more
 module _ (values : List ℤ) (first : ℕ) where
   abbrev index : List ℤ

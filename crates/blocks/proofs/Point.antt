@@ -1,7 +1,7 @@
 -- POINT 3, from the contracts.
-use mathlib.Core.Path.{_≡_, refl, sym, ap, _∙_}
-use mathlib.Core.List.{List, []}
-use mathlib.Core.Logic.{_⊎_, inl, inr}
+use mathlib.Core.Path.{_≡_, ap, _∙_}
+use mathlib.Core.List.{List}
+use mathlib.Core.Logic.{inl, inr}
 use Prim.Native.Nat.{ℕ, _+_, _*_, _-_, _/_, _%_, _<_, _≤_}
 use native.Mathlib.Omega.{arith}
 use lib.IntN.{ℤ, pos}
@@ -9,13 +9,12 @@ use lib.ListN.{length, getD, take, drop, length-take, length-drop}
 use lib.Seq.{length-take-le, getD-take, getD-drop}
 use borrow.Author.Tests.{eq-eqb, ne-eqb}
 use Rattle.laws.proofs.Tests.{lt-or-ge}
-use Rattle.history.specs.declared.Minimum.{Minimum}
 use Rattle.history.specs.Minima.{minimum}
 use Rattle.history.proofs.Lowest.{minimum-least}
 use Rattle.blocks.specs.declared.Reply.{Reply}
-use Rattle.blocks.specs.Takes.{fromZero, blockOf, blockCount, blockMinima, rangeRefusal, searchRefusal, told}
+use Rattle.blocks.specs.Takes.{blockOf, blockCount, rangeRefusal, searchRefusal}
 use Rattle.blocks.specs.Contracts.{Builds, Searches, Stretches}
-use Rattle.blocks.specs.Promises.{BuildSays, SearchSays, StretchSays, Fitting, Outside, TellsLeast, EveryIndex, EveryBuild, EverySearch, EveryStretch, Point3}
+use Rattle.blocks.specs.Promises.{BuildSays, SearchSays, StretchSays, Fitting, Outside, EveryIndex, EveryBuild, EverySearch, EveryStretch, Point3}
 use Rattle.blocks.proofs.Refusals.{exceeds, not-below, in-range}
 use Rattle.blocks.proofs.Indexes.{length-index, entry}
 use Rattle.blocks.proofs.Covering.{length-block}

@@ -1,11 +1,8 @@
 -- Which refusal is due, by the tests of the code.
-use mathlib.Core.Path.{_≡_, refl, ap}
-use mathlib.Core.Bool.{Bool, true, false, cond, _||_}
+use mathlib.Core.Path.{_≡_}
 use Prim.Native.Nat.{ℕ, _<_, _≤_}
-use native.Mathlib.Omega.{arith}
-use lib.Dec.{eqb, leb, ltb}
 use borrow.Author.Tests.{le-leb, lt-leb, lt-ltb, le-ltb}
-use Rattle.blocks.specs.Takes.{blockCount, rangeRefusal, indexRefusal}
+use Rattle.blocks.specs.Takes.{rangeRefusal}
 
 -- "14 when i exceeds j", "or j is not below the take's length", and else none
 pub exceeds : (n i j : ℕ) → j < i → rangeRefusal n i j ≡ 14

@@ -1,12 +1,11 @@
 -- A scan of some values for the least of them, and one for its place.
 use mathlib.Core.Path.{_≡_, refl, sym, ap, _∙_}
 use mathlib.Core.Bool.{Bool, true, false, cond}
-use mathlib.Core.List.{List, [], _∷_, _++_}
+use mathlib.Core.List.{List, [], _∷_}
 use mathlib.Core.Logic.{inl, inr}
 use Prim.Native.Nat.{ℕ, zero, suc, _+_, _-_, _<_, _≤_, max}
 use native.Mathlib.Omega.{arith}
 use lib.IntN.{ℤ, pos}
-use lib.Signed.{leZ}
 use lib.ListN.{length, getD, take}
 use lib.Seq.{take-suc, length-take-le}
 use Rattle.laws.proofs.Tests.{clash, lt-or-ge}

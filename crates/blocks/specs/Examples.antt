@@ -1,7 +1,7 @@
 -- Worked examples of stored takes: what searches are told, what an index is, and what a stretch is. That the definitions work them out so are the theorems `searches-worked`, `indexes-worked` and
 -- `stretches-worked` of proofs/Examples; that every call of the functions gives them, `searches-given`, `indexes-given` and `stretches-given`.
 use mathlib.Core.Path.{_≡_}
-use mathlib.Core.List.{List, [], _∷_, _++_, map}
+use mathlib.Core.List.{List, [], _∷_, _++_}
 use Prim.Native.Nat.{ℕ}
 use lib.IntN.{ℤ, pos, negsuc}
 use lib.ListN.{length, replicate}

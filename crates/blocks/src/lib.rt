@@ -107,6 +107,30 @@ fn least(values: &[i32]) -> Found
     Found { value, place }
 }
 
+// The same of many values, block by block, so that the place is looked for in one block alone.
+fn least_of_many(values: &[i32]) -> Found
+    requires { ⌜ 0 < length (now values) ⌝ }
+    ensures { λ r. ⌜ (r ≡ minimumFrom (now (values .entry)) 0) × (r .place .0 < length (now (values .entry))) ⌝ }
+{
+    let blocks = block_count(values.len());
+    let mut value = least_value(block(values, 0));
+    let mut at = 0;
+    let mut b = 1;
+    while b < blocks {
+        let v = least_value(block(values, b));
+        if takes_over(v, value) {
+            value = v;
+            at = b;
+        }
+        b += 1;
+    }
+    let place = place_of(block(values, at), value);
+    Found {
+        value,
+        place: Offset(64 * at + place.0),
+    }
+}
+
 // The least of the part of a take inside an edge block, from `a` to before `e`: the place in the part, and `a`.
 fn least_of_edge(take: &[i32], a: usize, e: usize) -> Found
     requires { ⌜ (a < e) × (e ≤ length (now take)) ⌝ }
@@ -135,7 +159,7 @@ fn least_of_blocks(take: &[i32], index: &[i32], first: usize, end: usize) -> Fou
     requires { ⌜ (first < end) × (end ≤ length (now index)) × (length (now index) ≡ blockCount (length (now take))) ⌝ }
     ensures { λ r. ⌜ OfBlocks (now (take .entry)) (now (index .entry)) first end r ⌝ }
 {
-    let entry = least(&index[first..end]);
+    let entry = least_of_many(&index[first..end]);
     let value = entry.value;
     let within = entry.place;
     let b = first + within.0;

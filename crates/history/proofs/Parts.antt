@@ -1,5 +1,5 @@
 -- The range minimum of a list in two parts: where it begins in the second it is that part's, counted from the part's start; where it begins in the first it is the lower of both.
-use mathlib.Core.Path.{_≡_, refl, sym, ap, _∙_}
+use mathlib.Core.Path.{_≡_, refl, ap, _∙_}
 use mathlib.Core.Bool.{Bool, true, false, cond}
 use mathlib.Core.List.{List, [], _∷_, _++_}
 use Prim.Native.Nat.{ℕ, _+_, _-_, _<_, _≤_}

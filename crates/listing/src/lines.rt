@@ -1,5 +1,4 @@
 // The lines that `lookup` prints, each written behind the bytes that are written already, where there is room for the longest such line.
-ghost use mathlib.Core.Path.{_≡_};
 ghost use Prim.Native.Nat.{_+_, _*_, _<_, _≤_};
 ghost use lib.ListN.{length};
 ghost use Rattle.blocks.specs.Takes.{told};
@@ -19,17 +18,6 @@ pub fn no_take(out: &mut [u8], used: usize) -> usize
     put(out, used, b"no take\n")
 }
 
-// A reply's number: 0 of an acceptance.
-fn reply_number(reply: Reply) -> u8
-    ensures { λ r. ⌜ r ≡ told reply .number ⌝ }
-{
-    match reply {
-        Reply::Accepted => 0,
-        Reply::Lowest(_) => 0,
-        Reply::Refused(why) => history::number(why),
-    }
-}
-
 // What is found: its value and its place, each behind a space.
 fn found(out: &mut [u8], used: usize, found: Found) -> usize
     requires { ⌜ used + 33 ≤ length (now out) ⌝ }
@@ -45,7 +33,7 @@ fn reply(out: &mut [u8], used: usize, reply: Reply) -> usize
     requires { ⌜ used + 36 ≤ length (now out) ⌝ }
     ensures { λ r. ⌜ Adds (now (out .entry)) used (replyText (told reply)) (now (out .exit)) r × (r ≤ used + 36) ⌝ }
 {
-    let number = put_number(out, used, reply_number(reply) as u64);
+    let number = put_number(out, used, blocks::reply_number(reply) as u64);
     match reply {
         Reply::Lowest(lowest) => found(out, number, lowest),
         Reply::Accepted => number,

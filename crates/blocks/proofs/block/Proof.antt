@@ -1,3 +1,4 @@
+-- `blocks::block` meets its contract: what is left of the take, or 64 values of it.
 use mathlib.Core.Path.{_≡_, sym, ap, _∙_}
 use Prim.Native.Nat.{ℕ, _+_, _*_, _-_}
 use native.Mathlib.Omega.{arith}
@@ -6,34 +7,25 @@ use lib.Seq.{take-all}
 use borrow.Author.Needs.{needs}
 use Rattle.blocks.proofs.block.Statement.{statement}
 use Rattle.blocks.proofs.block.Tie as tie
-use Rattle.blocks.proofs.block.Reads as reads
-use Rattle.blocks.proofs.block.Lts as lts
 
--- src/lib.rt:42:16
 mul-from : tie.Need-mul-from
 mul-from c = search needs
 
--- src/lib.rt:43:8
 sub-if1 : tie.Need-sub-if1
 sub-if1 c = search needs
 
--- src/lib.rt:44:16
 mul-result : tie.Need-mul-result
 mul-result c = search needs
 
--- src/lib.rt:44:16
 sub-result : tie.Need-sub-result
 sub-result c = search needs
 
--- src/lib.rt:44:16
 part-result-start : tie.Need-part-result-start
 part-result-start c = search needs
 
--- src/lib.rt:44:16
 part-result-end : tie.Need-part-result-end
 part-result-end c = search needs
 
--- src/lib.rt:44:9
 returns : tie.Need-returns
 returns c =
     let a = c .before .before .args in
@@ -41,27 +33,21 @@ returns c =
     let n = length-drop (64 * a .b) (a .take .now) in
     take-all (length (a .take .now) - 64 * a .b) rest (omega arith) ∙ sym (take-all 64 rest (omega (arith, c .before .if1 .taken)))
 
--- src/lib.rt:46:17
 add-result : tie.Need-add-result
 add-result c = search needs
 
--- src/lib.rt:46:5
 mul-result-2 : tie.Need-mul-result-2
 mul-result-2 c = search needs
 
--- src/lib.rt:46:5
 sub-result-2 : tie.Need-sub-result-2
 sub-result-2 c = search needs
 
--- src/lib.rt:46:5
 part-result-start-2 : tie.Need-part-result-start-2
 part-result-start-2 c = search needs
 
--- src/lib.rt:46:5
 part-result-end-2 : tie.Need-part-result-end-2
 part-result-end-2 c = search needs
 
--- src/lib.rt:38:1
 returns-2 : tie.Need-returns-2
 returns-2 c =
     let a = c .before .before .args in

@@ -1,14 +1,16 @@
 -- `blocks::build` meets its contract: after b turns the first b entries are the index's.
 use mathlib.Core.Path.{_≡_, refl, sym, ap, _∙_}
 use mathlib.Core.List.{List}
-use Prim.Native.Nat.{ℕ, _-_, _≤_}
+use Prim.Native.Nat.{_-_, _≤_}
 use native.Mathlib.Omega.{arith}
 use lib.IntN.{ℤ}
 use lib.ListN.{length, length-set, take as front}
 use borrow.Author.Tests.{eq-eqb, ne-eqb}
+use mir.Syntax.{w32}
+use mir.Val.{toZ, ofZ}
 use mir.Facts.{toZ-ofZ}
-use Rattle.blocks.specs.Takes.{minimumFrom, blockCount, blockMinima}
-use Rattle.blocks.proofs.Indexes.{length-index, built-more, built-all}
+use Rattle.blocks.specs.Takes.{minimumFrom, blockOf, blockCount, blockMinima}
+use Rattle.blocks.proofs.Indexes.{built-more, built-all}
 use Rattle.blocks.proofs.Covering.{length-block}
 use borrow.Author.Needs.{needs, sfits-of}
 use Rattle.blocks.proofs.build.Statement.{statement}
@@ -59,8 +61,8 @@ loop-again c =
     let a = l .before .before .before .args in
     let vs = a .take .now in
     let b = l .loop .b in
-    let n = length-index vs in
-    let v = toZ-ofZ (sfits-of (c .least-value .ok)) ∙ c .least-value .ensures ∙ ap (λ (xs : List ℤ). minimumFrom xs 0 .value) (c .before .block .ensures) in (
+    let v : toZ w32 (ofZ w32 (c .least-value .result)) ≡ minimumFrom (blockOf vs b) 0 .value =
+    toZ-ofZ (sfits-of (c .least-value .ok)) ∙ c .least-value .ensures ∙ ap (λ (xs : List ℤ). minimumFrom xs 0 .value) (c .before .block .ensures) in (
       omega arith,
       length-set (l .loop .index) b _ ∙ l .loop .inv .1,
       built-more vs (l .loop .index) b _ (omega (arith, l .loop .inv .1)) (omega arith) v (l .loop .inv .2),

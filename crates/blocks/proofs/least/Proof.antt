@@ -1,8 +1,6 @@
 -- `blocks::least` meets its contract.
-use mathlib.Core.Path.{_≡_, _∙_}
+use mathlib.Core.Path.{_∙_}
 use borrow.Author.Needs.{needs, sfits-of}
-use mir.Syntax.{w32}
-use mir.Val.{toZ, ofZ}
 use mir.Facts.{toZ-ofZ}
 use Rattle.blocks.proofs.least.Statement.{statement}
 use Rattle.blocks.proofs.least.Tie as tie

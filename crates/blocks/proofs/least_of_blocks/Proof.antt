@@ -10,20 +10,20 @@ use borrow.Author.Needs.{needs}
 use Rattle.blocks.proofs.least_of_blocks.Statement.{statement}
 use Rattle.blocks.proofs.least_of_blocks.Tie as tie
 
-mul-least : tie.Need-mul-least
-mul-least c = search needs
+mul-least-of-many : tie.Need-mul-least-of-many
+mul-least-of-many c = search needs
 
-sub-least : tie.Need-sub-least
-sub-least c = search needs
+sub-least-of-many : tie.Need-sub-least-of-many
+sub-least-of-many c = search needs
 
-part-least-start : tie.Need-part-least-start
-part-least-start c = search needs
+part-least-of-many-start : tie.Need-part-least-of-many-start
+part-least-of-many-start c = search needs
 
-part-least-end : tie.Need-part-least-end
-part-least-end c = search needs
+part-least-of-many-end : tie.Need-part-least-of-many-end
+part-least-of-many-end c = search needs
 
-least-requires : tie.Need-least-requires
-least-requires c κs = search needs
+least-of-many-requires : tie.Need-least-of-many-requires
+least-of-many-requires c κs = search needs
 
 add-b : tie.Need-add-b
 add-b c = search needs
@@ -35,7 +35,7 @@ place-of-requires : tie.Need-place-of-requires
 place-of-requires c κs =
     let l = c .before .before .before .before in
     let a = l .before .before .args in
-    rw (c .block .ensures) (length-block (a .take .now) (a .first + l .least .result .place .0) (omega arith) .0)
+    rw (c .block .ensures) (length-block (a .take .now) (a .first + l .least-of-many .result .place .0) (omega arith) .0)
 
 mul-t10 : tie.Need-mul-t10
 mul-t10 c = search needs
@@ -48,7 +48,7 @@ returns c =
     let p = c .before in
     let l = p .before .before .before .before .before in
     let a = l .before .before .args in
-    let same : toZ w32 (ofZ w32 (l .least .result .value)) ≡ l .least .result .value =
+    let same : toZ w32 (ofZ w32 (l .least-of-many .result .value)) ≡ l .least-of-many .result .value =
     toZ-ofZ (record { sfits = p .before .before .before .before .struct-told .given .0 .1 }) in
     rw same
     (of-blocks
@@ -56,25 +56,25 @@ returns c =
     (a .index .now)
     (a .first)
     (a .end)
-    (l .least .result .value)
-    (l .least .result .place .0)
+    (l .least-of-many .result .value)
+    (l .least-of-many .result .place .0)
     (p .place-of .result)
     (l .before .before .pre .0)
     (l .before .before .pre .1)
     (l .before .before .pre .2)
-    (l .least .ensures .0)
-    (l .least .ensures .1)
+    (l .least-of-many .ensures .0)
+    (l .least-of-many .ensures .1)
     (rw (p .before .block .ensures, same) at (p .place-of .ensures)))
 
 pub least-of-blocks-spec : {M : Type 1} → statement M
 least-of-blocks-spec =
     tie.close
     (tie.spec
-    mul-least
-    sub-least
-    part-least-start
-    part-least-end
-    least-requires
+    mul-least-of-many
+    sub-least-of-many
+    part-least-of-many-start
+    part-least-of-many-end
+    least-of-many-requires
     add-b
     block-requires
     place-of-requires

@@ -1,5 +1,5 @@
 -- `blocks::least_of_edge` meets its contract: the part of the take inside an edge block is handed on.
-use mathlib.Core.Path.{_≡_, sym, ap, _∙_}
+use mathlib.Core.Path.{sym, ap, _∙_}
 use Prim.Native.Nat.{_+_}
 use native.Mathlib.Omega.{arith}
 use mir.Facts.{toZ-ofZ}

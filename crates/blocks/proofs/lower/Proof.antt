@@ -6,7 +6,6 @@ use mir.Syntax.{w32}
 use mir.Val.{toZ, ofZ}
 use mir.Facts.{toZ-ofZ}
 use Rattle.history.specs.Minima.{takesOver}
-use Rattle.blocks.specs.declared.Found.{Found}
 use Rattle.blocks.proofs.lower.Statement.{statement}
 use Rattle.blocks.proofs.lower.Tie as tie
 

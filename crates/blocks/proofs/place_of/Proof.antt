@@ -1,9 +1,9 @@
 -- `blocks::place_of` meets its contract: from the last value on, none is the least but the one that is found.
 use mathlib.Core.Path.{_≡_, sym, ap, _∙_}
-use Prim.Native.Nat.{ℕ, _-_, _<_, _≤_}
+use Prim.Native.Nat.{ℕ, _<_, _≤_}
 use native.Mathlib.Omega.{arith}
 use borrow.Author.Needs.{needs, sfits-of}
-use lib.IntN.{ℤ, pos}
+use lib.IntN.{pos}
 use lib.ListN.{length, getD}
 use mir.Syntax.{w32}
 use mir.Val.{toZ, ofZ}

@@ -1,5 +1,5 @@
 -- `blocks::search` meets its contract, of each refusal and of what is found.
-use mathlib.Core.Path.{_≡_, sym, _∙_}
+use mathlib.Core.Path.{sym, _∙_}
 use native.Mathlib.Omega.{arith}
 use lib.ListN.{length}
 use Rattle.blocks.proofs.Refusals.{exceeds, not-below}

@@ -1,3 +1,4 @@
+-- `blocks::stretch` meets its contract: the part has the values, and lies where they do.
 use mathlib.Core.Path.{ap}
 use Prim.Native.Nat.{ℕ}
 use native.Mathlib.Omega.{arith}
@@ -6,52 +7,40 @@ use Rattle.blocks.proofs.Refusals.{exceeds, not-below, in-range}
 use borrow.Author.Needs.{needs}
 use Rattle.blocks.proofs.stretch.Statement.{statement}
 use Rattle.blocks.proofs.stretch.Tie as tie
-use Rattle.blocks.proofs.stretch.Reads as reads
-use Rattle.blocks.proofs.stretch.Lts as lts
 
--- src/lib.rt:225:9
 slice-aggregate-result : tie.Need-slice-aggregate-result
 slice-aggregate-result c = search needs
 
--- src/lib.rt:225:9
 returns : tie.Need-returns
 returns c =
     let a = c .before .before .args in
     let e = exceeds (length (a .take .now)) (a .i) (a .j) (c .before .if1 .taken) in
     (record { has = simp e; own = simp e (ap (λ (k : ℕ). (a .take .ptr .0, k)) (omega arith)) })
 
--- src/lib.rt:228:9
 slice-aggregate-result-2 : tie.Need-slice-aggregate-result-2
 slice-aggregate-result-2 c = search needs
 
--- src/lib.rt:228:9
 returns-2 : tie.Need-returns-2
 returns-2 c =
     let a = c .before .before .before .args in
     let e = not-below (length (a .take .now)) (a .i) (a .j) (omega arith) (c .before .if2 .taken) in
     (record { has = simp e; own = simp e (ap (λ (k : ℕ). (a .take .ptr .0, k)) (omega arith)) })
 
--- src/lib.rt:230:14
 add-result : tie.Need-add-result
 add-result c = search needs
 
--- src/lib.rt:230:5
 mul-result : tie.Need-mul-result
 mul-result c = search needs
 
--- src/lib.rt:230:5
 sub-result : tie.Need-sub-result
 sub-result c = search needs
 
--- src/lib.rt:230:5
 part-result-start : tie.Need-part-result-start
 part-result-start c = search needs
 
--- src/lib.rt:230:5
 part-result-end : tie.Need-part-result-end
 part-result-end c = search needs
 
--- src/lib.rt:221:1
 returns-3 : tie.Need-returns-3
 returns-3 c =
     let a = c .before .before .before .args in
