@@ -10,12 +10,12 @@ use lib.ListN.{length}
 use Rattle.history.specs.Replies.{numbered}
 use Rattle.blocks.specs.declared.Found.{Found}
 use Rattle.blocks.specs.declared.Reply.{Reply}
-use Rattle.blocks.specs.Takes.{rangeMinimum, blockCount, blockMinima, rangeRefusal, buildRefusal, searchRefusal, stretchOf, told, answering}
+use Rattle.blocks.specs.Takes.{rangeMinimum, blockMinima, rangeRefusal, buildRefusal, searchRefusal, built, stretchOf, told, answering}
 
 -- "Building writes every index entry and nothing else": the index is then the take's, whatever it held. "15 .. also when building, which then writes nothing"
 pub record Builds (values before after : List ℤ) (r : Reply) : Type 0 where
   pub tells : told r ≡ numbered (buildRefusal (length values) (length before))
-  pub writes : after ≡ cond (eqb (length before) (blockCount (length values))) (blockMinima values) before
+  pub writes : after ≡ built values before
 
 -- what a search may show. Over an index built from that take it is the definition's; "otherwise the search stays in bounds, and the value and place shown are its own choice": the value is
 -- free, and every choice has in common that the place is one of the range

@@ -57,6 +57,10 @@ searchRefusal n m i j = indexRefusal n m (rangeRefusal n i j)
 abbrev pub buildRefusal : (n m : ℕ) → ℕ
 buildRefusal n m = indexRefusal n m 0
 
+-- THE INDEX AFTER BUILDING, of one that was `before`: "Building writes every index entry"; with 15 it "writes nothing"
+abbrev pub built : (values before : List ℤ) → List ℤ
+built values before = cond (eqb (length before) (blockCount (length values))) (blockMinima values) before
+
 -- THE STRETCH from i to j, both included; "for an i and j that get 14, the stretch is empty". The call takes no index, so that 15 never applies
 abbrev pub stretchOf : List ℤ → (i j : ℕ) → List ℤ
 stretchOf values i j = cond (eqb (rangeRefusal (length values) i j) 0) (take ((j + 1) - i) (drop i values)) []

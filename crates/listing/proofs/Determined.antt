@@ -10,14 +10,14 @@ use lib.IntN.{ℤ}
 use lib.ListN.{length}
 use Rattle.history.specs.Replies.{numbered}
 use Rattle.blocks.specs.declared.Found.{Found}
-use Rattle.blocks.specs.Takes.{Told, rangeMinimum, blockCount, blockMinima, searchRefusal, buildRefusal, answering}
+use Rattle.blocks.specs.Takes.{Told, rangeMinimum, blockCount, blockMinima, searchRefusal, buildRefusal, answering, built}
 use Rattle.blocks.specs.Contracts.{Choice}
 use Rattle.text.specs.Stops.{stopLines}
 use Rattle.listing.specs.declared.Request.{Request}
 use Rattle.listing.specs.declared.Request.the-variants.{Search, Stretch, Set}
 use Rattle.listing.specs.Lines.{noTakeLine, buildLine, indexLine, searchLine, endLine}
 use Rattle.listing.specs.Input.{takeOf, noTake, requestsOf, endOf, leftOf}
-use Rattle.listing.specs.Output.{filledOf, built, builtOf, requestLine, requestLines, readOf}
+use Rattle.listing.specs.Output.{filledOf, builtOf, requestLine, requestLines, readOf}
 use Rattle.listing.specs.Choices.{AllAllowed, leastFor, NoSet, Determined}
 
 -- an index that leaves a search no choice: if its length is the number of blocks, it is the take's

@@ -11,12 +11,11 @@
 use mathlib.Core.Bool.{cond}
 use mathlib.Core.List.{List, [], _∷_, _++_}
 use Prim.Native.Nat.{ℕ, _+_}
-use lib.Dec.{eqb}
 use lib.IntN.{ℤ, negsuc}
 use lib.ListN.{length, take, set, replicate}
 use Rattle.history.specs.Replies.{numbered}
 use Rattle.blocks.specs.declared.Found.{Found}
-use Rattle.blocks.specs.Takes.{blockCount, blockMinima, stretchOf, searchRefusal, buildRefusal, answering}
+use Rattle.blocks.specs.Takes.{built, stretchOf, searchRefusal, buildRefusal, answering}
 use Rattle.text.specs.Stops.{stopLines}
 use Rattle.listing.specs.declared.Request.{Request}
 use Rattle.listing.specs.declared.Request.the-variants.{Search, Stretch, Set}
@@ -28,9 +27,6 @@ abbrev pub filledOf : List ℕ → List ℤ
 filledOf bytes = replicate (entriesOf bytes) (negsuc 0)
 
 -- "builds": the index is then the take's; where building is refused, it is as it was
-abbrev pub built : (values before : List ℤ) → List ℤ
-built values before = cond (eqb (length before) (blockCount (length values))) (blockMinima values) before
-
 abbrev pub builtOf : List ℕ → List ℤ
 builtOf bytes = built (takeOf bytes) (filledOf bytes)
 
