@@ -10,7 +10,7 @@
  *                              bytes of stack    of these below the stack pointer    registers other than the general ones
  *     filkotar_build           48                0                                   xmm0 xmm1 xmm2 xmm3 xmm4
  *     filkotar_gain            488               128                                 xmm0
- *     filkotar_search          40                0                                   xmm0 xmm1 xmm2 xmm3 xmm4
+ *     filkotar_search          96                48                                  xmm0 xmm1 xmm2 xmm3 xmm4
  *     filkotar_window_open     0                 0                                   none
  *     filkotar_window_value    40                0                                   none
  *

@@ -1,10 +1,9 @@
 -- Without a `set` there is no choice. Building leaves the take's index, over which each search finds the least by its contract; or it is refused, since the index has another length, and then
 -- each search is refused with 15 and shows nothing.
 use mathlib.Core.Path.{_≡_, refl, sym, ap, _∙_}
-use mathlib.Core.Bool.{Bool, true, false, cond}
+use mathlib.Core.Bool.{true≢false, Bool, true, false, cond}
 use mathlib.Core.List.{List, [], _∷_, _++_, map}
 use Prim.Native.Nat.{ℕ, _+_}
-use native.Mathlib.Omega.{arith}
 use lib.Dec.{eqb}
 use lib.IntN.{ℤ}
 use lib.ListN.{length}
@@ -31,7 +30,7 @@ settled-built values before = go (eqb (length before) (blockCount (length values
     go : (b : Bool) → eqb (length before) (blockCount (length values)) ≡ b
         → eqb (length (cond b (blockMinima values) before)) (blockCount (length values)) ≡ true → cond b (blockMinima values) before ≡ blockMinima values
     go true e t = refl
-    go false e t = absurd (let z : _≡_ {A = Bool} true false = sym t ∙ e in let n : _≡_ {A = ℕ} 0 1 = cc in omega arith)
+    go false e t = absurd (true≢false (sym t ∙ e))
 
 -- what a search over such an index is told
 search-told : (values index : List ℤ) (i j : ℕ) (f : Found) → Settled values index → Choice values index i j f
