@@ -122,7 +122,7 @@ filkotar_window_answer filkotar_window_value(filkotar_window s, uint64_t *area, 
 /*
  * A stored take: an array of values, take[0] to take[length - 1], that is finished. Beside it stands its index, a second array of yours, which holds the
  * least value of each block of 64: index[0] of take[0] to take[63], index[1] of take[64] to take[127], and so on. The last block may be shorter. You build
- * the index once. With it the least value of any range is found without a look at most of the range, and where it stands.
+ * the index once. With it the least value of any range and its place are found, and of a long range most values are not looked at.
  *
  *     static int32_t take[1000], index[16];                            16 is (1000 + 63) / 64
  *     if (filkotar_build(take, 1000, index, 16) == 0) {
@@ -139,8 +139,8 @@ filkotar_window_answer filkotar_window_value(filkotar_window s, uint64_t *area, 
  */
 typedef struct {
     uint32_t number; /* 0, or why the search was refused */
-    int32_t value;   /* with number 0, the least value of the range; else 0 */
-    uint64_t place;  /* and where it stands in the take, from 0 on; else 0 */
+    int32_t value;   /* with number 0 and the index of this take, the least value of the range; with another number 0 */
+    uint64_t place;  /* and where it stands in the take, from 0 on; with another number 0 */
 } filkotar_found;
 
 #ifdef FILKOTAR_SAME

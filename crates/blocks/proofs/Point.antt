@@ -71,6 +71,10 @@ every-stretch at values i j start part d = record {
       ap (λ (vs : List ℤ). getD vs k (pos 0)) has ∙ getD-take (j + 1 - i) (drop i values) k (pos 0) (omega arith) ∙ getD-drop i values k (pos 0);
   own = λ l h. simp (in-range (length values) i j l h) at (d .own);
   empty = λ o. simp (outside-range values i j o) at (d .has);
+  nothing = λ o.
+      let first : 0 * 4 + at .1 ≡ at .1 = omega arith in
+      let there : start ≡ (at .0, 0 * 4 + at .1) = simp (outside-range values i j o) at (d .own) in
+      there ∙ ap (λ (k : ℕ). (at .0, k)) first;
 }
 
 -- of functions of which at least the contracts are known

@@ -67,6 +67,8 @@ pub record EveryStretch (at : ℕ × ℕ) (values : List ℤ) (i j : ℕ) (start
   pub same : i ≤ j → j < length values → (k : ℕ) → i + k ≤ j → getD part k (pos 0) ≡ getD values (i + k) (pos 0)
   pub own : i ≤ j → j < length values → start ≡ liesAt at i
   pub empty : Outside values i j → part ≡ []
+  -- and the empty part starts where the take does
+  pub nothing : Outside values i j → start ≡ at
 
 -- ALL OF IT, where `builds`, `searches` and `stretches` are known of the functions
 pub record Point3 (builds : BuildSays) (searches : SearchSays) (stretches : StretchSays) : Type 0 where

@@ -2,7 +2,7 @@
 -- that is dropped, or that gains a hypothesis or an alternative, no longer proves what stands here.
 use mathlib.Core.Path.{_≡_, refl, ap, _∙_}
 use mathlib.Core.Bool.{true, false}
-use mathlib.Core.List.{List, [], map}
+use mathlib.Core.List.{List, [], _∷_, map}
 use mathlib.Core.Logic.{inl, inr}
 use Prim.Native.Nat.{ℕ, _+_, _*_, _-_, _/_, _%_, _<_, _≤_}
 use native.Mathlib.Omega.{arith}
@@ -12,8 +12,10 @@ use lib.ListN.{length, getD, take}
 use lib.Seq.{length-take-le, getD-take}
 use contract.Lifetimes.{Lfts}
 use denote.Ref.{RefT}
+use denote.Signature.{plain}
+use denote.Builtin.{SliceRefOf, usize, i32}
 use Rattle.history.specs.declared.Minimum.{Minimum}
-use Rattle.history.specs.Minima.{Least}
+use Rattle.history.specs.Minima.{lowest, Least}
 use Rattle.history.specs.Replies.{numbered, showing}
 use Rattle.history.proofs.Lowest.{least-only}
 use Rattle.blocks.specs.declared.Found.{Found}
@@ -27,6 +29,7 @@ use Rattle.blocks.proofs.Tied.{Built, Searched, Stretched, built-of, searched-o
 use Rattle.blocks.proofs.Examples as worked
 use Rattle.blocks.proofs.build.Reads as build-reads
 use Rattle.blocks.proofs.search.Reads as search-reads
+use Rattle.blocks.proofs.stretch as stretch-function
 use Rattle.blocks.proofs.stretch.Reads as stretch-reads
 
 point-3 : Point3 Built Searched Stretched
@@ -81,6 +84,24 @@ search-asks-nothing κs x y i j = tt
 
 stretch-asks-nothing : (κs : Lfts 1) (x : RefT (List ℤ)) (i j : ℕ) → stretch-reads.Asked κs (x, (i, (j, tt)))
 stretch-asks-nothing κs x i j = tt
+
+-- `stretch` takes a slice of signed values and two numbers of 64 bits, and gives a slice of the same lifetime
+stretch-takes : stretch-function.signature .params ≡ SliceRefOf (0 ∷ []) tt (plain (λ κs. i32)) (λ κs. tt) ∷ plain (λ κs. usize) ∷ plain (λ κs. usize) ∷ []
+stretch-takes = refl
+
+stretch-gives : stretch-function.signature .result ≡ SliceRefOf (0 ∷ []) tt (plain (λ κs. i32)) (λ κs. tt)
+stretch-gives = refl
+
+-- the first worked examples, of any call: a search of 3, 1, 2, 1; building for no values; and the stretch of the two in the middle
+first-search : (r : Reply) → Searched (pos 3 ∷ pos 1 ∷ pos 2 ∷ pos 1 ∷ []) (pos 1 ∷ []) 0 3 r → told r ≡ showing (record { value = pos 1; place = record { 0 = 3 } })
+unfolding lowest blockMinimaFrom
+first-search r q = searches-given .0 (pos 1 ∷ []) r q refl (λ n. refl)
+
+first-index : (before after : List ℤ) (r : Reply) → Built [] before after r → length before ≡ 0 → (told r ≡ numbered 0) × (after ≡ [])
+first-index before after r q n = indexes-given .0 before after r q n
+
+second-stretch : (at start : ℕ × ℕ) (part : List ℤ) → Stretched at (pos 3 ∷ pos 1 ∷ pos 2 ∷ pos 1 ∷ []) 1 2 start part → part ≡ pos 1 ∷ pos 2 ∷ []
+second-stretch at start part q = stretches-given .1 .0 at start part q
 
 -- BUILDING, of any take and any index. "Building writes every index entry and nothing else"; an index of another length gets 15, and is not written
 module _ (values before after : List ℤ) (r : Reply) (q : Built values before after r) where
@@ -217,3 +238,10 @@ module _ (at : ℕ × ℕ) (values : List ℤ) (i j : ℕ) (start : ℕ × ℕ) 
 
   pub stretch-beyond : length values ≤ j → part ≡ []
   stretch-beyond l = point-3 .stretching at values i j start part q .empty (inr l)
+
+  -- and starts where the take does
+  pub nothing-exceeds : j < i → start ≡ at
+  nothing-exceeds l = point-3 .stretching at values i j start part q .nothing (inl l)
+
+  pub nothing-beyond : length values ≤ j → start ≡ at
+  nothing-beyond l = point-3 .stretching at values i j start part q .nothing (inr l)
