@@ -192,7 +192,7 @@ fn with_right_edge(take: &[i32], a: usize, e: usize, found: Found) -> Found
     found
 }
 
-// The block behind the last one that ends at `e` or before it: the last block ends where the take does, though it may be shorter.
+// How many blocks end at `e` or before it. The last block ends where the take does, though it may be shorter.
 fn blocks_before(n: usize, e: usize) -> usize
     requires { ⌜ e ≤ n ⌝ }
     ensures { λ r. ⌜ r ≡ blocksBefore n e ⌝ }
@@ -203,7 +203,8 @@ fn blocks_before(n: usize, e: usize) -> usize
     e / 64
 }
 
-// The least of the range from `i` to before `e`. Where no block is wholly inside, all of it lies in edge blocks.
+// The least of the range from `i` to before `e`. The blocks wholly inside go from the first that begins at `i` or behind it to before `end`; where there is none, all of the range lies in edge
+// blocks.
 fn least_within(take: &[i32], index: &[i32], i: usize, e: usize) -> Found
     requires { ⌜ (i < e) × (e ≤ length (now take)) × (length (now index) ≡ blockCount (length (now take))) ⌝ }
     ensures { λ r. ⌜ Covers (now (take .entry)) (now (index .entry)) i e r ⌝ }
