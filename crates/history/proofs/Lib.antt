@@ -5,4 +5,5 @@ pub mod Parts
 pub mod Steps
 pub mod Soundness
 pub mod Following
+pub mod StateVariable
 pub mod Worked

@@ -1,5 +1,6 @@
 pub mod Minima
 pub mod Standings
+pub mod StateVariable
 pub mod Replies
 pub mod Histories
 pub mod Sessions

@@ -5,7 +5,8 @@ ghost use mathlib.Core.List.{[], _∷_};
 ghost use Rattle.history.specs.declared.Command.the-variants.{Close};
 ghost use Rattle.history.specs.Replies.{numberOf, told, acceptances};
 ghost use Rattle.history.specs.Standings as Standings;
-ghost use Rattle.history.specs.Standings.{transitionOf, eventOf};
+ghost use Rattle.history.specs.Standings.{eventOf};
+ghost use Rattle.history.specs.StateVariable.{bySection2};
 
 // A place in the stream of accepted Values, from 1; 0 stands before the first.
 pub struct Position(pub u32);
@@ -151,21 +152,39 @@ fn refusing(why: Refusal, standing: Standing) -> Transition
     }
 }
 
-// The standing's part in a Value, a Mark and a Close. Nowhere else is a standing chosen or tested, but for the opening's, which is none.
+// The present position's standing, in the order of section 2 of source document 000, where it is "a state variable t that is associated with the current position j".
+// Value, Mark and Close of the engine call this, and nowhere else is a standing chosen or tested, but for the opening's, which is none.
 pub fn transition_of(event: Event, standing: Standing) -> Transition
-    ensures { λ r. ⌜ r ≡ transitionOf event standing ⌝ }
+    ensures { λ r. ⌜ r ≡ bySection2 event standing ⌝ }
 {
-    match event {
-        Event::Value => allowing(Standing::Unmarked),
-        Event::Mark => match standing {
-            Standing::None => refusing(Refusal::NothingToMark, standing),
-            Standing::Unmarked => allowing(Standing::Marked),
-            Standing::Marked => refusing(Refusal::AlreadyMarked, standing),
-            Standing::Closed => refusing(Refusal::AlreadyClosed, standing),
-        },
-        Event::CloseOfPresent => allowing(Standing::Closed),
-        Event::Other => allowing(standing),
+    // "Every time a Value command is issued this variable is set to the unmarked state, because the value of j changes."
+    if let Event::Value = event {
+        return allowing(Standing::Unmarked);
     }
+    if let Event::Mark = event {
+        // "If a Mark command is processed when t is in this state then the sequence is valid, and t is set to marked."
+        if let Standing::Unmarked = standing {
+            return allowing(Standing::Marked);
+        }
+        // "If t was already in the marked state then the sequence is invalid."
+        if let Standing::Marked = standing {
+            return refusing(Refusal::AlreadyMarked, standing);
+        }
+    }
+    // "If the Close command is called with i = j this variable changes to the closed state."
+    if let Event::CloseOfPresent = event {
+        return allowing(Standing::Closed);
+    }
+    if let Event::Mark = event {
+        // "Hence if a Mark command is issued when j is in the closed state the sequence is also invalid."
+        if let Standing::Closed = standing {
+            return refusing(Refusal::AlreadyClosed, standing);
+        }
+        // Document 01, 7: "Mark, when the standing is none."
+        return refusing(Refusal::NothingToMark, standing);
+    }
+    // Any other command leaves the standing, as document 01 has it.
+    allowing(standing)
 }
 
 // What a Close of position i is to the standing.
