@@ -1,4 +1,4 @@
--- What section 2 of source document 000 says of the standing, with what document 01 adds to it, is what document 01 says by itself: at each step and each standing the same is due, and the same standing follows.
+-- What section 2 of source document 000 says of the standing, with what document 01 adds to it, is what document 01 says by itself: of each event, at each standing, the same is due and the same standing follows.
 use mathlib.Core.Path.{_≡_, refl}
 use Rattle.history.specs.declared.Standing.{Standing}
 use Rattle.history.specs.declared.Event.{Event}

@@ -1,11 +1,11 @@
 // The words that the engine and its callers share: positions, commands, the session and the replies; and the present position's standing.
-// What they mean is said in specs/, from document 01 alone; nothing here knows how the engine keeps its marks.
+// What they mean is said in specs/, from the papers alone; nothing here knows how the engine keeps its marks.
 ghost use mathlib.Core.Path.{_≡_};
 ghost use mathlib.Core.List.{[], _∷_};
 ghost use Rattle.history.specs.declared.Command.the-variants.{Close};
 ghost use Rattle.history.specs.Replies.{numberOf, told, acceptances};
 ghost use Rattle.history.specs.Standings as Standings;
-ghost use Rattle.history.specs.Standings.{eventOf};
+ghost use Rattle.history.specs.Standings.{transitionOf, eventOf};
 ghost use Rattle.history.specs.StateVariable.{bySection2};
 
 // A place in the stream of accepted Values, from 1; 0 stands before the first.
@@ -73,7 +73,7 @@ pub struct Answer {
     pub session: Session,
 }
 
-// What a command is to the present position's standing.
+// What a command is to the present position's standing: a "step" of document 02, point 4.
 pub enum Event {
     Value,
     Mark,
@@ -81,7 +81,7 @@ pub enum Event {
     Other,
 }
 
-// What is due to an event by the standing.
+// What is due to an event by the standing: a refusal with 7, 8 or 9, or nothing.
 pub enum Due {
     Nothing,
     Refused(Refusal),
@@ -152,9 +152,10 @@ fn refusing(why: Refusal, standing: Standing) -> Transition
     }
 }
 
-// The present position's standing, in the order of section 2 of source document 000, where it is "a state variable t that is associated with the current position j".
-// Value, Mark and Close of the engine call this, and nowhere else is a standing chosen or tested, but for the opening's, which is none.
-pub fn transition_of(event: Event, standing: Standing) -> Transition
+// The standing by section 2 of source document 000, where it is "a state variable t that is associated with the current position j",
+// sentence by sentence in that order: Value resets, Mark tests marked, Close of the present position, then the closed test. So a Mark is
+// asked about twice, before the Close and behind it. What section 2 does not say stands last, and is document 01's.
+fn by_section_2(event: Event, standing: Standing) -> Transition
     ensures { λ r. ⌜ r ≡ bySection2 event standing ⌝ }
 {
     // "Every time a Value command is issued this variable is set to the unmarked state, because the value of j changes."
@@ -166,7 +167,7 @@ pub fn transition_of(event: Event, standing: Standing) -> Transition
         if let Standing::Unmarked = standing {
             return allowing(Standing::Marked);
         }
-        // "If t was already in the marked state then the sequence is invalid."
+        // "If t was already in the marked state then the sequence is invalid.": 8
         if let Standing::Marked = standing {
             return refusing(Refusal::AlreadyMarked, standing);
         }
@@ -176,18 +177,26 @@ pub fn transition_of(event: Event, standing: Standing) -> Transition
         return allowing(Standing::Closed);
     }
     if let Event::Mark = event {
-        // "Hence if a Mark command is issued when j is in the closed state the sequence is also invalid."
+        // "Hence if a Mark command is issued when j is in the closed state the sequence is also invalid.": 9
         if let Standing::Closed = standing {
             return refusing(Refusal::AlreadyClosed, standing);
         }
-        // Document 01, 7: "Mark, when the standing is none."
+        // The standing that is left is none. Document 01, 7: "Mark, when the standing is none."
         return refusing(Refusal::NothingToMark, standing);
     }
-    // Any other command leaves the standing, as document 01 has it.
+    // Any other command, a Query or a Close of another position, leaves the standing, as document 01's bookkeeper does.
     allowing(standing)
 }
 
-// What a Close of position i is to the standing.
+// What is due to an event by the standing, and the standing after its acceptance. The engine's Value, Mark and Close call this; to a Value
+// and a Close nothing is due at any standing. Nowhere else does the engine choose or test one, but for the opening's, `Standing::None`.
+pub fn transition_of(event: Event, standing: Standing) -> Transition
+    ensures { λ r. ⌜ r ≡ transitionOf event standing ⌝ }
+{
+    by_section_2(event, standing)
+}
+
+// What a Close of position i is to the standing: section 2's "called with i = j" is tested here.
 pub fn close_event(present: Position, i: Position) -> Event
     ensures { λ r. ⌜ r ≡ eventOf present (Close i) ⌝ }
 {

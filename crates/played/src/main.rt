@@ -9,6 +9,7 @@ mod print;
 mod refusals;
 mod rounds;
 mod script;
+mod standings;
 mod windows;
 
 fn main() {
@@ -17,5 +18,6 @@ fn main() {
     bytes::sequences();
     edges::sequences();
     refusals::sequences();
+    standings::sequences();
     windows::sequences();
 }

@@ -54,7 +54,7 @@ pub fn reply(r: Reply) {
     }
 }
 
-fn standing(s: Standing) {
+pub fn standing(s: Standing) {
     match s {
         Standing::None => text(b"none"),
         Standing::Unmarked => text(b"unmarked"),

@@ -7,7 +7,6 @@ use mir.Facts.{toZ-ofZ}
 use Rattle.history.specs.declared.Event.{Event}
 use Rattle.history.specs.declared.Transition.{Transition}
 use Rattle.history.specs.Standings.{transitionOf}
-use Rattle.history.proofs.StateVariable.{as-document-01}
 use Rattle.table.specs.Calls.{rowOf}
 use Rattle.engine.proofs.Doing.{does-unopened, does-other, does-with}
 use Rattle.engine.proofs.Asked.{a-close, asked-nothing, close-lost, close-done}
@@ -84,7 +83,7 @@ returns-5 c =
     let i = f .before .before .before .before in
     let k = i .before .before .before in
     does-with (c .accept .ensures) (toZ-ofZ (record { sfits = c .before .struct-told .given .1 .1 .1 .0 .1 })) (omega arith)
-    (ap (λ (x : Transition). x .after) (t .transition-of .ensures ∙ as-document-01 (t .before .close-event .result) (k .args .s .standing) ∙ ap (λ (x : Event). transitionOf x (k .args .s .standing)) (t .before .close-event .ensures)))
+    (ap (λ (x : Transition). x .after) (t .transition-of .ensures ∙ ap (λ (x : Event). transitionOf x (k .args .s .standing)) (t .before .close-event .ensures)))
     (close-done _ _ _ (omega (arith, i .before .if1 .left)) (omega (arith, i .if2 .left)) _ _ (f .before .before .seek .ensures) (ap rowOf (f .found .given .1)) _ (l .release .ensures) (omega arith))
 
 pub close-spec : {M : Type 1} → statement M

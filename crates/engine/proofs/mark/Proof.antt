@@ -3,9 +3,7 @@
 use mathlib.Core.Path.{ap, sym, _∙_}
 use native.Mathlib.Omega.{arith}
 use borrow.Author.Needs.{needs}
-use Rattle.history.specs.declared.Event.{Event}
 use Rattle.history.specs.declared.Transition.{Transition}
-use Rattle.history.proofs.StateVariable.{as-document-01}
 use Rattle.engine.proofs.Doing.{does-unopened, does-other}
 use Rattle.engine.proofs.Marking.{allowed, mark-refused}
 use Rattle.engine.proofs.mark.Statement.{statement}
@@ -30,10 +28,7 @@ enum-told : tie.Need-enum-told
 enum-told c = search needs
 
 mark-allowed-requires : tie.Need-mark-allowed-requires
-mark-allowed-requires c κs =
-    let t = c .before .before .before in
-    let k = t .before .before .before .before in
-    (omega arith, omega arith, allowed (t .transition-of .ensures ∙ as-document-01 Event.Mark (k .args .s .standing)) (c .before .enum-told .given .1))
+mark-allowed-requires c κs = (omega arith, omega arith, allowed (c .before .before .before .transition-of .ensures) (c .before .enum-told .given .1))
 
 enum-known-due : tie.Need-enum-known-due
 enum-known-due c = search needs
@@ -49,10 +44,8 @@ returns-3 c = search needs
 
 returns-4 : tie.Need-returns-4
 returns-4 c =
-    let t = c .before .before .before .before in
-    let k = t .before .before .before .before in
-    let due = ap (λ (x : Transition). x .due) (t .transition-of .ensures ∙ as-document-01 Event.Mark (k .args .s .standing)) in
-    rw (c .refuse3 .ensures) (mark-refused _ _ (omega arith) (omega arith) _ (sym due ∙ c .before .before .due .given .1))
+    let t = c .before .before .before .before .transition-of in
+    rw (c .refuse3 .ensures) (mark-refused _ _ (omega arith) (omega arith) _ (sym (ap (λ (x : Transition). x .due) (t .ensures)) ∙ c .before .before .due .given .1))
 
 pub mark-spec : {M : Type 1} → statement M
 mark-spec =

@@ -1,12 +1,10 @@
 -- `engine::value` meets its contract. The tests on the way are those of the refusals in checking order; behind them the stack has lowered every minimum by the value at the next
 -- position, which is the law `value-done`. The answer's parts are the next position, the value, the count as it was and the standing after a Value.
-use mathlib.Core.Path.{refl, ap, _∙_}
+use mathlib.Core.Path.{refl, ap}
 use native.Mathlib.Omega.{arith}
 use borrow.Author.Needs.{needs}
 use mir.Facts.{toZ-ofZ}
-use Rattle.history.specs.declared.Event.{Event}
 use Rattle.history.specs.declared.Transition.{Transition}
-use Rattle.history.proofs.StateVariable.{as-document-01}
 use Rattle.engine.proofs.Doing.{does-unopened, does-other, does-with}
 use Rattle.engine.proofs.Valued.{value-last, value-done}
 use Rattle.engine.proofs.value.Statement.{statement}
@@ -48,9 +46,8 @@ same-length c = search needs
 returns-4 : tie.Need-returns-4
 returns-4 c =
     let l = c .before .before .before .before in
-    let k = l .before .before .before .before .before .before .before .before .before in
-    let v = toZ-ofZ (k .fits .v) in
-    does-with (c .accept .ensures) v refl (ap (λ (x : Transition). x .after) (c .before .transition-of .ensures ∙ as-document-01 Event.Value (k .args .s .standing)))
+    let v = toZ-ofZ (l .before .before .before .before .before .before .before .before .before .fits .v) in
+    does-with (c .accept .ensures) v refl (ap (λ (x : Transition). x .after) (c .before .transition-of .ensures))
     (value-done _ _ _ (omega arith) (omega arith) _ (omega arith) (rw v at (l .lower .ensures)))
 
 pub value-spec : {M : Type 1} → statement M

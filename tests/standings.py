@@ -1,0 +1,175 @@
+#!/usr/bin/env python3
+"""The present position's standing, document 02, point 4.
+
+  standings.py [--lines]
+
+Works out, from the cases of the definition as they stand in crates/history/specs/StateVariable.antt, what the program `played` prints of every standing and every step, and compares it with the
+stored output. Compares, too, that the definition's cases and section 2's sentences stand in the order of section 2, in the definition and in the code, and that the engine chooses or tests a
+standing nowhere else. With --lines it also writes the lines.
+"""
+import re
+import sys
+
+DEFINITION = "crates/history/specs/StateVariable.antt"
+CODE = "crates/history/src/lib.rt"
+STORED = "crates/played/stdout"
+# the crates that the engine is made of
+ENGINE = ["history", "layout", "stack", "table", "ranges", "engine"]
+
+STANDINGS = ["None", "Unmarked", "Marked", "Closed"]
+
+# source document 000, the end of section 2
+SENTENCES = [
+    "Every time a Value command is issued this variable is set to the unmarked state, because the value of j changes.",
+    "If a Mark command is processed when t is in this state then the sequence is valid, and t is set to marked.",
+    "If t was already in the marked state then the sequence is invalid.",
+    "If the Close command is called with i = j this variable changes to the closed state.",
+    "Hence if a Mark command is issued when j is in the closed state the sequence is also invalid.",
+]
+
+# what each sentence is about, and then what document 01 adds
+ORDER = (
+    [("Value", s) for s in STANDINGS]
+    + [("Mark", "Unmarked"), ("Mark", "Marked")]
+    + [("CloseOfPresent", s) for s in STANDINGS]
+    + [("Mark", "Closed"), ("Mark", "None")]
+    + [("Other", s) for s in STANDINGS]
+)
+
+wrong = []
+
+
+def text(path):
+    with open(path, encoding="utf-8") as f:
+        return f.read()
+
+
+def in_order(path):
+    """Each sentence stands in the file once, in section 2's order."""
+    found = text(path)
+    places = [found.find(f'"{sentence}"') for sentence in SENTENCES]
+    if -1 in places or places != sorted(places) or any(found.count(s) != 1 for s in SENTENCES):
+        wrong.append(f"{path}: the sentences of section 2 do not stand there once each, in its order")
+
+
+def cases():
+    """The definition's cases: for an event and a standing, the refusal's name or None, and the standing after."""
+    line = re.compile(r"bySection2 Event\.(\w+) Standing\.(\w+) = (?:allowing|refusing Refusal\.(\w+)) Standing\.(\w+)")
+    lines = [l for l in text(DEFINITION).splitlines() if l.startswith("bySection2 ")]
+    read = [line.fullmatch(l) for l in lines]
+    if None in read or [(m[1], m[2]) for m in read] != ORDER:
+        sys.exit(f"{DEFINITION}: the cases are not the sixteen, each in its place")
+    return {(m[1], m[2]): (m[3], m[4]) for m in read}
+
+
+def numbers():
+    return {name: int(n) for name, n in re.findall(r"^numberOf Refusal\.(\w+) = (\d+)$", text("crates/history/specs/Replies.antt"), re.M)}
+
+
+class Board:
+    """An opening of 704 words, K = 3, and what follows; the standing goes by the definition alone."""
+
+    def __init__(self, of, number_of):
+        self.of, self.number_of = of, number_of
+        self.values, self.active, self.standing = [], [], "None"
+        self.said = ["open 704: 0"]
+        self.settled = None
+
+    def run(self, commands):
+        for command in commands.split():
+            self.command(command[0], int(command[1:] or 0))
+
+    def command(self, letter, argument):
+        present = len(self.values)
+        close = "CloseOfPresent" if argument == present else "Other"
+        event = {"V": "Value", "M": "Mark", "C": close, "Q": "Other"}[letter]
+        due, after = self.of[event, self.standing]
+        reply = self.reply(letter, argument, due)
+        shown = f", {self.least(argument)}" if letter == "Q" and reply == 0 else ""
+        self.said.append(f"{letter}{'' if letter == 'M' else f' {argument}'}: {reply}{shown}")
+        # where the definition says what this step is told, or what follows it
+        self.settled = (event, self.standing) if due or reply == 0 else None
+        if reply == 0:
+            self.standing = after
+            if letter == "V":
+                self.values.append(argument)
+            if letter == "M":
+                self.active.append(present)
+            if letter == "C":
+                self.active.remove(argument)
+        elif due and after != self.standing:
+            wrong.append(f"{DEFINITION}: {event} at {self.standing} is refused and leaves {after}")
+
+    def reply(self, letter, argument, due):
+        if due:
+            return self.number_of[due]
+        if letter == "M" and len(self.active) == 3:
+            return 10
+        if letter in "QC" and argument not in self.active:
+            return 11
+        return 0
+
+    def least(self, i):
+        value, place = min((v, -p) for p, v in enumerate(self.values, 1) if p >= i)
+        return f"{value} at {-place}"
+
+    def line(self):
+        last = self.values[-1] if self.values else 0
+        end = f"N 704, K 3, present {len(self.values)}, last {last}, active {len(self.active)}, {self.standing.lower()}"
+        return "; ".join(self.said + [end])
+
+
+def main():
+    in_order(DEFINITION)
+    in_order(CODE)
+    of, number_of = cases(), numbers()
+    lines, settled = [], set()
+
+    def played(commands, put, step):
+        board = Board(of, number_of)
+        board.run(commands)
+        if put:
+            board.standing = put
+        board.said.append(("put to " if put else "") + board.standing.lower())
+        board.run(step)
+        lines.append(board.line())
+        if board.settled:
+            settled.add(board.settled)
+        elif put:
+            wrong.append(f"{step} put to {put} is neither due a refusal nor accepted")
+
+    for commands, close in [("", "C0"), ("V5 M V6", "C2"), ("V5 M V6 M", "C2"), ("V5 M V6 M C2", "C2")]:
+        for step in ["V7", "M", close, "C1", "Q1"]:
+            played(commands, None, step)
+    for put in STANDINGS:
+        for step in ["V7", "M", "C2", "C1", "Q1"]:
+            played("V5 M V6 M", put, step)
+
+    if settled != set(ORDER):
+        wrong.append(f"no line settles {sorted(set(ORDER) - settled)}")
+    stored = [l for l in text(STORED).splitlines() if l.startswith("open 704: ")]
+    if stored != lines:
+        for n, (a, b) in enumerate(zip(stored, lines), 1):
+            if a != b:
+                wrong.append(f"{STORED}, standing {n}: stored  {a}\n{' ' * 12}by the definition  {b}")
+        if len(stored) != len(lines):
+            wrong.append(f"{STORED}: {len(stored)} lines of standings, and not {len(lines)}")
+
+    # a standing is chosen or tested by `by_section_2` and chosen by the opening, which has none
+    for crate in ENGINE:
+        source = text(f"crates/{crate}/src/lib.rt")
+        if crate == "history":
+            start = source.index("fn by_section_2")
+            source = source[:start] + source[source.index("\n}\n", start):]
+        for line in source.splitlines():
+            if "Standing::" in line.split("//")[0] and (crate != "engine" or line.strip() != "standing: Standing::None,"):
+                wrong.append(f"crates/{crate}/src/lib.rt chooses or tests a standing: {line.strip()}")
+
+    if "--lines" in sys.argv:
+        print("\n".join(lines))
+    for w in wrong:
+        print(w, file=sys.stderr)
+    return 1 if wrong else 0
+
+
+sys.exit(main())
