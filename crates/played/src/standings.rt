@@ -6,19 +6,24 @@ use crate::script;
 use history::Session;
 use history::Standing;
 
-// A step, after commands that lead to a standing.
+// The standing that a step meets, what the step is told, and the session after it.
+fn meets(s: Session, area: &mut [u64; 704], step: &[u8]) {
+    let standing = s.standing;
+    print::standing(standing);
+    print::text(b"; ");
+    let s = script::run(s, area, step);
+    print::end(s);
+}
+
+// A step after commands that lead to a standing.
 fn after(commands: &[u8], step: &[u8]) {
     let mut area = [0u64; 704];
     let s = call::open(&mut area);
     let s = script::run(s, &mut area, commands);
-    let reached = s.standing;
-    print::standing(reached);
-    print::text(b"; ");
-    let s = script::run(s, &mut area, step);
-    print::end(s);
+    meets(s, &mut area, step);
 }
 
-// A step with a standing that is put by hand, on words in which both positions are active marks: a session that no call returned. Here each
+// A step at a standing that is put by hand, on words in which both positions are active marks: a session that no call returned. Here each
 // step is accepted to which nothing is due.
 fn put(standing: Standing, step: &[u8]) {
     let mut area = [0u64; 704];
@@ -34,10 +39,7 @@ fn put(standing: Standing, step: &[u8]) {
         standing,
     };
     print::text(b"put to ");
-    print::standing(standing);
-    print::text(b"; ");
-    let s = script::run(s, &mut area, step);
-    print::end(s);
+    meets(s, &mut area, step);
 }
 
 // A Value, a Mark, a Close of the present position, and other commands: a Close of another position and a Query.
