@@ -1,5 +1,5 @@
-// The worked examples of document 01 and answers that follow from it, played on the engine, and cases of document 02's window. What each call answers is printed, and
-// the file `stdout` beside this folder says what the documents have it answer, worked out by hand.
+// The worked examples of document 01 and answers that follow from it, played on the engine; every standing and step of document 02, point 4; and cases of its window. What
+// each call answers is printed, and the file `stdout` beside this folder says what the documents have it answer, worked out by hand, and of the standings by tests/standings.py.
 mod bytes;
 mod call;
 mod edges;
