@@ -7,6 +7,7 @@ Works out, from the cases of the definition as they stand in crates/history/spec
 stored output. Compares, too, that the definition's cases and section 2's sentences stand in the order of section 2, in the definition and in the code, and that the engine chooses or tests a
 standing nowhere else. With --lines it also writes the lines.
 """
+import glob
 import re
 import sys
 
@@ -119,6 +120,25 @@ class Board:
         return "; ".join(self.said + [end])
 
 
+def elsewhere():
+    """The engine names a standing in `by_section_2` and in the opening, which has none; else it only hands standings on, by the type's own name."""
+    opening = 0
+    for crate in ENGINE:
+        for path in sorted(glob.glob(f"crates/{crate}/src/**/*.rt", recursive=True)):
+            source = text(path)
+            if crate == "history":
+                start = source.index("fn by_section_2")
+                source = source[:start] + source[source.index("\n}\n", start):]
+            for line in source.splitlines():
+                code = line.split("//")[0].strip()
+                if crate == "engine" and code == "standing: Standing::None,":
+                    opening += 1
+                elif re.search(r"\bStanding\s*(::|as\b)", code):
+                    wrong.append(f"{path} chooses or tests a standing: {code}")
+    if opening != 2:
+        wrong.append(f"crates/engine: {opening} places have the standing none, and not the opening's two")
+
+
 def main():
     in_order(DEFINITION)
     in_order(CODE)
@@ -155,15 +175,7 @@ def main():
         if len(stored) != len(lines):
             wrong.append(f"{STORED}: {len(stored)} lines of standings, and not {len(lines)}")
 
-    # a standing is chosen or tested by `by_section_2` and chosen by the opening, which has none
-    for crate in ENGINE:
-        source = text(f"crates/{crate}/src/lib.rt")
-        if crate == "history":
-            start = source.index("fn by_section_2")
-            source = source[:start] + source[source.index("\n}\n", start):]
-        for line in source.splitlines():
-            if "Standing::" in line.split("//")[0] and (crate != "engine" or line.strip() != "standing: Standing::None,"):
-                wrong.append(f"crates/{crate}/src/lib.rt chooses or tests a standing: {line.strip()}")
+    elsewhere()
 
     if "--lines" in sys.argv:
         print("\n".join(lines))
