@@ -4,8 +4,8 @@
   standings.py [--lines]
 
 Works out, from the cases of the definition as they stand in crates/history/specs/StateVariable.antt, what the program `played` prints of every standing and every step, and compares it with the
-stored output. Compares, too, that the definition's cases and section 2's sentences stand in the order of section 2, in the definition and in the code, and that the engine chooses or tests a
-standing nowhere else. With --lines it also writes the lines.
+stored output. Compares, too, that the definition's cases and section 2's sentences stand in the order of section 2, in the definition and in the code, that Value, Mark and Close use this code, and that the
+engine chooses or tests a standing nowhere else. With --lines it also writes the lines.
 """
 import glob
 import re
@@ -19,23 +19,38 @@ ENGINE = ["history", "layout", "stack", "table", "ranges", "engine"]
 
 STANDINGS = ["None", "Unmarked", "Marked", "Closed"]
 
-# source document 000, the end of section 2
-SENTENCES = [
-    "Every time a Value command is issued this variable is set to the unmarked state, because the value of j changes.",
-    "If a Mark command is processed when t is in this state then the sequence is valid, and t is set to marked.",
-    "If t was already in the marked state then the sequence is invalid.",
-    "If the Close command is called with i = j this variable changes to the closed state.",
-    "Hence if a Mark command is issued when j is in the closed state the sequence is also invalid.",
+# the end of section 2 of source document 000, and then what document 01 adds: a sentence, the definition's cases for it, and the code's step
+ORDER = [
+    (
+        "Every time a Value command is issued this variable is set to the unmarked state, because the value of j changes.",
+        [("Value", s) for s in STANDINGS],
+        "allowing(Standing::Unmarked)",
+    ),
+    (
+        "If a Mark command is processed when t is in this state then the sequence is valid, and t is set to marked.",
+        [("Mark", "Unmarked")],
+        "allowing(Standing::Marked)",
+    ),
+    (
+        "If t was already in the marked state then the sequence is invalid.",
+        [("Mark", "Marked")],
+        "refusing(Refusal::AlreadyMarked, standing)",
+    ),
+    (
+        "If the Close command is called with i = j this variable changes to the closed state.",
+        [("CloseOfPresent", s) for s in STANDINGS],
+        "allowing(Standing::Closed)",
+    ),
+    (
+        "Hence if a Mark command is issued when j is in the closed state the sequence is also invalid.",
+        [("Mark", "Closed")],
+        "refusing(Refusal::AlreadyClosed, standing)",
+    ),
+    ("Mark, when the standing is none.", [("Mark", "None")], "refusing(Refusal::NothingToMark, standing)"),
+    ("the paper stays.", [("Other", s) for s in STANDINGS], "allowing(standing)"),
 ]
-
-# what each sentence is about, and then what document 01 adds
-ORDER = (
-    [("Value", s) for s in STANDINGS]
-    + [("Mark", "Unmarked"), ("Mark", "Marked")]
-    + [("CloseOfPresent", s) for s in STANDINGS]
-    + [("Mark", "Closed"), ("Mark", "None")]
-    + [("Other", s) for s in STANDINGS]
-)
+SENTENCES = [sentence for sentence, _, _ in ORDER]
+CASES = [case for _, those, _ in ORDER for case in those]
 
 wrong = []
 
@@ -45,22 +60,43 @@ def text(path):
         return f.read()
 
 
-def in_order(path):
-    """Each sentence stands in the file once, in section 2's order."""
-    found = text(path)
-    places = [found.find(f'"{sentence}"') for sentence in SENTENCES]
-    if -1 in places or places != sorted(places) or any(found.count(s) != 1 for s in SENTENCES):
-        wrong.append(f"{path}: the sentences of section 2 do not stand there once each, in its order")
+def body(source, name):
+    """The text of a function."""
+    start = source.index(f"fn {name}(")
+    return source[start:source.index("\n}\n", start)]
+
+
+def quoted(comment):
+    """Which of the sentences a comment quotes; a quotation may begin before the sentence."""
+    return [s for s in SENTENCES if re.search(f'"[^"]*{re.escape(s)}"', comment)]
 
 
 def cases():
-    """The definition's cases: for an event and a standing, the refusal's name or None, and the standing after."""
-    line = re.compile(r"bySection2 Event\.(\w+) Standing\.(\w+) = (?:allowing|refusing Refusal\.(\w+)) Standing\.(\w+)")
-    lines = [l for l in text(DEFINITION).splitlines() if l.startswith("bySection2 ")]
-    read = [line.fullmatch(l) for l in lines]
-    if None in read or [(m[1], m[2]) for m in read] != ORDER:
-        sys.exit(f"{DEFINITION}: the cases are not the sixteen, each in its place")
-    return {(m[1], m[2]): (m[3], m[4]) for m in read}
+    """The definition's cases: for an event and a standing, the refusal's name or None, and the standing after. Each stands under its sentence."""
+    source = text(DEFINITION)
+    found, read = [], {}
+    for line in source[source.index("\nabbrev pub bySection2"):].splitlines():
+        m = re.fullmatch(r"bySection2 Event\.(\w+) Standing\.(\w+) = (?:allowing|refusing Refusal\.(\w+)) Standing\.(\w+)", line)
+        if m:
+            found.append((m[1], m[2]))
+            read[m[1], m[2]] = (m[3], m[4])
+        else:
+            found += quoted(line)
+    if found != [word for sentence, those, _ in ORDER for word in [sentence] + those]:
+        sys.exit(f"{DEFINITION}: the sixteen cases do not stand each under its sentence, in section 2's order")
+    return read
+
+
+def code_in_order():
+    """The code's steps stand each under its sentence."""
+    found = []
+    for line in body(text(CODE), "by_section_2").splitlines():
+        if line.strip().startswith("//"):
+            found += quoted(line)
+        else:
+            found += re.findall(r"\b(?:allowing|refusing)\(.*?\)", line)
+    if found != [word for sentence, _, step in ORDER for word in [sentence, step]]:
+        wrong.append(f"{CODE}: the steps of `by_section_2` do not stand each under its sentence, in section 2's order")
 
 
 def numbers():
@@ -120,6 +156,16 @@ class Board:
         return "; ".join(self.said + [end])
 
 
+def used():
+    """`transition_of` is `by_section_2` and nothing else, and Value, Mark and Close call it, each once."""
+    if not re.search(r"\npub fn transition_of\([^{]*\n\s+ensures [^\n]*\n\{\n    by_section_2\(event, standing\)\n\}\n", text(CODE)):
+        wrong.append(f"{CODE}: the body of `transition_of` is not `by_section_2(event, standing)`")
+    engine = text("crates/engine/src/lib.rt")
+    for name in ["value", "mark", "close"]:
+        if body(engine, name).count("history::transition_of(") != 1:
+            wrong.append(f"crates/engine: `{name}` does not call `transition_of` once")
+
+
 def elsewhere():
     """The engine names a standing in `by_section_2` and in the opening, which has none; else it only hands standings on, by the type's own name."""
     opening = 0
@@ -127,8 +173,7 @@ def elsewhere():
         for path in sorted(glob.glob(f"crates/{crate}/src/**/*.rt", recursive=True)):
             source = text(path)
             if crate == "history":
-                start = source.index("fn by_section_2")
-                source = source[:start] + source[source.index("\n}\n", start):]
+                source = source.replace(body(source, "by_section_2"), "")
             for line in source.splitlines():
                 code = line.split("//")[0].strip()
                 if crate == "engine" and code == "standing: Standing::None,":
@@ -140,8 +185,7 @@ def elsewhere():
 
 
 def main():
-    in_order(DEFINITION)
-    in_order(CODE)
+    code_in_order()
     of, number_of = cases(), numbers()
     lines, settled = [], set()
 
@@ -165,8 +209,8 @@ def main():
         for step in ["V7", "M", "C2", "C1", "Q1"]:
             played("V5 M V6 M", put, step)
 
-    if settled != set(ORDER):
-        wrong.append(f"no line settles {sorted(set(ORDER) - settled)}")
+    if settled != set(CASES):
+        wrong.append(f"no line settles {sorted(set(CASES) - settled)}")
     stored = [l for l in text(STORED).splitlines() if l.startswith("open 704: ")]
     if stored != lines:
         for n, (a, b) in enumerate(zip(stored, lines), 1):
@@ -175,6 +219,7 @@ def main():
         if len(stored) != len(lines):
             wrong.append(f"{STORED}: {len(stored)} lines of standings, and not {len(lines)}")
 
+    used()
     elsewhere()
 
     if "--lines" in sys.argv:

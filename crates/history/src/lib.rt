@@ -184,7 +184,7 @@ fn by_section_2(event: Event, standing: Standing) -> Transition
         // The standing that is left is none. Document 01, 7: "Mark, when the standing is none."
         return refusing(Refusal::NothingToMark, standing);
     }
-    // Any other command, a Query or a Close of another position, leaves the standing, as document 01's bookkeeper does.
+    // Any other command, a Query or a Close of another position, leaves the standing. Document 01, of a Query: "the paper stays."
     allowing(standing)
 }
 
