@@ -14,9 +14,6 @@ import sys
 DEFINITION = "crates/history/specs/StateVariable.antt"
 CODE = "crates/history/src/lib.rt"
 STORED = "crates/played/stdout"
-# the crates that the engine is made of
-ENGINE = ["history", "layout", "stack", "table", "ranges", "engine"]
-
 STANDINGS = ["None", "Unmarked", "Marked", "Closed"]
 
 # the end of section 2 of source document 000, and then what document 01 adds: a sentence, the definition's cases for it, and the code's step
@@ -49,6 +46,8 @@ ORDER = [
     ("Mark, when the standing is none.", [("Mark", "None")], "refusing(Refusal::NothingToMark, standing)"),
     ("the paper stays.", [("Other", s) for s in STANDINGS], "allowing(standing)"),
 ]
+# what the code asks, one after the other
+TESTS = ["Event::Value", "Event::Mark", "Standing::Unmarked", "Standing::Marked", "Event::CloseOfPresent", "Event::Mark", "Standing::Closed"]
 SENTENCES = [sentence for sentence, _, _ in ORDER]
 CASES = [case for _, those, _ in ORDER for case in those]
 
@@ -89,14 +88,16 @@ def cases():
 
 def code_in_order():
     """The code's steps stand each under its sentence."""
-    found = []
-    for line in body(text(CODE), "by_section_2").splitlines():
+    code, found = body(text(CODE), "by_section_2"), []
+    for line in code.splitlines():
         if line.strip().startswith("//"):
             found += quoted(line)
         else:
             found += re.findall(r"\b(?:allowing|refusing)\(.*?\)", line)
-    if found != [word for sentence, _, step in ORDER for word in [sentence, step]]:
+    if found != [word for sentence, _, step in ORDER for word in [sentence, step]] or re.findall(r"if let (\w+::\w+) =", code) != TESTS:
         wrong.append(f"{CODE}: the steps of `by_section_2` do not stand each under its sentence, in section 2's order")
+    if "bySection2 event standing ⌝ }\n" not in code or "\nghost use Rattle.history.specs.StateVariable.{bySection2};\n" not in text(CODE):
+        wrong.append(f"{CODE}: the contract of `by_section_2` is not the definition of {DEFINITION}")
 
 
 def numbers():
@@ -168,8 +169,9 @@ def used():
 
 def elsewhere():
     """The engine names a standing in `by_section_2` and in the opening, which has none; else it only hands standings on, by the type's own name."""
+    stands_on = dict(line.split(":") for line in text("crates.txt").splitlines() if line and not line.startswith("#"))
     opening = 0
-    for crate in ENGINE:
+    for crate in ["engine"] + stands_on["engine"].split():
         for path in sorted(glob.glob(f"crates/{crate}/src/**/*.rt", recursive=True)):
             source = text(path)
             if crate == "history":
@@ -178,7 +180,7 @@ def elsewhere():
                 code = line.split("//")[0].strip()
                 if crate == "engine" and code == "standing: Standing::None,":
                     opening += 1
-                elif re.search(r"\bStanding\s*(::|as\b)", code):
+                elif re.search(r"::(None|Unmarked|Marked|Closed)\b|\bStanding\s*(::|as\b)|\b(type\b.*|impl) Standing\b", code):
                     wrong.append(f"{path} chooses or tests a standing: {code}")
     if opening != 2:
         wrong.append(f"crates/engine: {opening} places have the standing none, and not the opening's two")
