@@ -104,7 +104,10 @@ allowing-requires-4 : tie.Need-allowing-requires-4
 allowing-requires-4 c κs = search needs
 
 returns-7 : tie.Need-returns-7
-returns-7 c = rw (other-left (c .before .before .before .before .before .args .event) (c .before .before .before .before .match .keys2) (c .before .before .match5 .keys2) (c .before .match6 .keys2)) (c .allowing4 .ensures ∙ sym (as-document-01 Event.Other (c .before .before .before .before .before .args .standing)))
+returns-7 c =
+    let k = c .before .before .before .before .before in
+    let e = other-left (k .args .event) (c .before .before .before .before .match .keys2) (c .before .before .match5 .keys2) (c .before .match6 .keys2) in
+    rw e (c .allowing4 .ensures ∙ sym (as-document-01 Event.Other (k .args .standing)))
 
 pub by-section-2-spec : {M : Type 1} → statement M
 by-section-2-spec =
