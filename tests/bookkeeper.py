@@ -1,5 +1,5 @@
 #!/usr/bin/env python3
-"""What the stream program prints for the command bytes on standard input, worked out by brute force from document 01 alone.
+"""What the stream program prints for the command bytes on standard input, worked out by brute force from document 01, with point 5 of document 02, alone.
 
 The history is plain: every value is written down, and a minimum is looked for among all of them. Nothing here is taken from the engine.
 
@@ -39,10 +39,10 @@ class History:
         return 0 if argument in self.marks else 11
 
     def minimum(self, mark):
-        """The least value since a mark and the latest position where it stands."""
+        """The least value since a mark and the earliest position from there on where it stands."""
         positions = range(mark, len(self.values) + 1)
         least = min(self.values[p - 1] for p in positions)
-        return least, max(p for p in positions if self.values[p - 1] == least)
+        return least, min(p for p in positions if self.values[p - 1] == least)
 
     def tell(self, letter, argument):
         """A command's reply: its number, and after an accepted Query the value and the place."""

@@ -148,8 +148,8 @@ class Board:
         return 0
 
     def least(self, i):
-        value, place = min((v, -p) for p, v in enumerate(self.values, 1) if p >= i)
-        return f"{value} at {-place}"
+        value, place = min((v, p) for p, v in enumerate(self.values, 1) if p >= i)
+        return f"{value} at {place}"
 
     def line(self):
         last = self.values[-1] if self.values else 0

@@ -1,11 +1,13 @@
 #!/usr/bin/env python3
-"""Whether an output is one that `lookup` may print for some bytes, worked out by brute force from document 02, point 3, and the program's description (at the head of
+"""Whether an output is one that `lookup` may print for some bytes, worked out by brute force from document 02, points 3 and 5, and the program's description (at the head of
 crates/listing/specs/Output.antt) alone: run `python3 tests/takes.py BYTES OUTPUT`.
 
 Every search and stretch looks at its range of the take, value by value; blocks are made for the index alone. Nothing here is taken from the crates' code. All that is printed is fixed but for
-the value and place of a search over an index that is not the take's, since entries were altered: there any value of 32 bits, and a place of the range, are right.
+the value and place of a search over an index that is not the take's, since entries were altered: there any value of 32 bits, and a place of the range, are right. Run with BYTES alone it writes
+the output that is stored, where such a search shows what docs/DECISIONS.md, 50, says of ours.
 
   python3 tests/takes.py crates/lookup/stdin crates/lookup/stdout
+  python3 tests/takes.py crates/lookup/stdin > crates/lookup/stdout
 
 tests/lookup.txt has the take and the requests of crates/lookup/stdin; three bytes stand behind them. tests/takes has further runs, each as NAME.bytes and NAME.out, and NAME.txt where
 tools/takes.py can write its bytes: takes of 64, 65, 128 and 129 values, with ranges inside one block, of one value, of exactly one block, across blocks and to the end of the shorter last
@@ -24,12 +26,13 @@ REQUEST = 13
 
 
 class Shown:
-    """A line that shows some value and a place of a range: the program's own choice."""
+    """A line that shows some value and a place of a range: the program's own choice, and what it chose."""
 
-    def __init__(self, start, first, last):
+    def __init__(self, start, first, last, chosen):
         self.start = start
         self.first = first
         self.last = last
+        self.chosen = '{} {} {}'.format(start, *chosen)
 
     def allows(self, line):
         found = re.fullmatch(re.escape(self.start) + r' (-[1-9][0-9]*|0|[1-9][0-9]*) (0|[1-9][0-9]*)', line)
@@ -45,10 +48,21 @@ def blocks(values):
 
 
 def least(values, i, j):
-    """The least value from i to j, both included, and its latest place."""
+    """The least value from i to j, both included, and its earliest place there."""
     part = values[i:j + 1]
     value = min(part)
-    return value, j - part[::-1].index(value)
+    return value, i + part.index(value)
+
+
+def chosen(values, index, i, j):
+    """What our search shows, whatever the index holds: the first least of the entries of the blocks wholly inside and of the other values; an entry stands at the first place in its block where
+    that value is, and at the block's first place where none is."""
+    inside = [b for b in range(len(index)) if i <= BLOCK * b and min(BLOCK * b + BLOCK, len(values)) <= j + 1]
+    found = [(values[k], k) for k in range(i, j + 1) if k // BLOCK not in inside]
+    for b in inside:
+        block = blocks(values)[b]
+        found.append((index[b], BLOCK * b + (block.index(index[b]) if index[b] in block else 0)))
+    return min(found)
 
 
 def outside(values, i, j):
@@ -89,7 +103,7 @@ def lines(stream):
             elif index == own:
                 yield '{} search 0 {} {}'.format(read, *least(values, a, b))
             else:
-                yield Shown(f'{read} search 0', a, b)
+                yield Shown(f'{read} search 0', a, b, chosen(values, index, a, b))
         elif kind == 2:
             part = [] if outside(values, a, b) else values[a:b + 1]
             yield ' '.join(map(str, [read, 'stretch', len(part), *([part[0], part[-1]] if part else [])]))
@@ -116,15 +130,21 @@ def difference(stream, output):
     return None
 
 
-def main(name, output):
-    with open(name, 'rb') as stream, open(output, encoding='ascii', newline='') as said:
-        wrong = difference(stream.read(), said.read())
+def main(name, output=None):
+    with open(name, 'rb') as f:
+        stream = f.read()
+    if output is None:
+        for line in lines(stream):
+            print(line.chosen if isinstance(line, Shown) else line)
+        return 0
+    with open(output, encoding='ascii', newline='') as said:
+        wrong = difference(stream, said.read())
     if wrong:
         print(f'{output}: {wrong}', file=sys.stderr)
     return 1 if wrong else 0
 
 
 if __name__ == '__main__':
-    if len(sys.argv) != 3:
-        sys.exit('usage: python3 tests/takes.py BYTES OUTPUT')
+    if len(sys.argv) not in (2, 3):
+        sys.exit('usage: python3 tests/takes.py BYTES [OUTPUT]')
     sys.exit(main(*sys.argv[1:]))

@@ -1,5 +1,5 @@
 #!/usr/bin/env python3
-"""What the C programs on stored takes print, worked out from document 02, point 3, by looking through the values of each range. Nothing here is taken from the crates.
+"""What the C programs on stored takes print, worked out from document 02, points 3 and 5, by looking through the values of each range. Nothing here is taken from the crates.
 
   python3 tests/takes_c.py takes | diff - tests/firmware/takes.out
   python3 tests/takes_c.py long  | diff - tests/firmware/long.out
@@ -45,7 +45,7 @@ def searched(take, entries, i, j):
     if i > j or j >= len(take):
         return 14, NOTHING
     least = min(take[i:j + 1])
-    return 0, (least, max(k for k in range(i, j + 1) if take[k] == least))
+    return 0, (least, min(k for k in range(i, j + 1) if take[k] == least))
 
 
 def line(number, shown):
@@ -82,11 +82,11 @@ def ranges(kind, length, every):
     entries, found, searches = Sum(), Sum(), 0
     entries.add(*(entry % 2**32 for entry in index))
     for n, i in enumerate(at):
-        # the least from i on, with its latest place, one value after another
+        # the least from i on, with its earliest place, one value after another
         place, last = i, i
         for j in at[n:]:
             for k in range(last, j + 1):
-                if take[k] <= take[place]:
+                if take[k] < take[place]:
                     place = k
             last = j + 1
             found.add(0, take[place] % 2**32, place)
@@ -143,7 +143,7 @@ def takes():
 
 
 def long():
-    """Of a take of 0s but for three values below 0: the least of a range is one of the three, or its last 0."""
+    """Of a take of 0s but for three values below 0: the least of a range is one of the three, or its first 0."""
     length, others = 2**32 + 200, {5: -3, 2**32 - 1: -2, 2**32 + 10: -1}
     at = [0, 5, 6, 199, 200, 2**32 - 2, 2**32 - 1, *(2**32 + k for k in (0, 5, 10, 11, 127, 128, 199, 200)), 2**64 - 1]
     yield f'{length} values, {(length + 63) // 64} blocks: 0'
@@ -155,7 +155,7 @@ def long():
                 number, least, place = 14, 0, 0
             else:
                 inside = [(others[place], place) for place in others if i <= place <= j]
-                number, (least, place) = 0, min(inside, default=(0, j))
+                number, (least, place) = 0, min(inside, default=(0, i))
             yield f'{i} to {j}: {number} {least} {place}'
 
 

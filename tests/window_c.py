@@ -1,5 +1,5 @@
 #!/usr/bin/env python3
-"""What the C programs on the look-ahead window print, worked out from document 02, point 2, by looking through the last W values each time. Nothing here is taken
+"""What the C programs on the look-ahead window print, worked out from document 02, points 2 and 5, by looking through the last W values each time. Nothing here is taken
 from the crates.
 
   python3 tests/window_c.py window | diff - tests/firmware/window.out
@@ -30,7 +30,7 @@ class Window:
         return 0
 
     def value(self, length, value):
-        """The reply's number, and the least of the last W values with the latest place where it stands."""
+        """The reply's number, and the least of the last W values with the earliest of their places where it stands."""
         number = self.refusal(length)
         if number:
             return number, NOTHING
@@ -38,7 +38,7 @@ class Window:
         self.present += 1
         positions = range(max(1, len(self.values) - self.width + 1), len(self.values) + 1)
         least = min(self.values[i - 1] for i in positions)
-        return 0, (least, max(i for i in positions if self.values[i - 1] == least))
+        return 0, (least, min(i for i in positions if self.values[i - 1] == least))
 
 
 def opened(length, width):

@@ -1,5 +1,5 @@
 #!/usr/bin/env python3
-"""What the limiter prints for the bytes on standard input, worked out by brute force from document 02, point 2, and the program's description (at the head of
+"""What the limiter prints for the bytes on standard input, worked out by brute force from document 02, points 2 and 5, and the program's description (at the head of
 crates/readout/specs/Output.antt) alone.
 
 Every value is written down, and after each one the last W are looked through. Nothing here is taken from the crates' code.
@@ -26,10 +26,10 @@ def refusal(width, words):
 
 
 def least(values, width):
-    """The least of the last W values, and the latest position where it stands: "before W have come, all count"."""
+    """The least of the last W values, and the earliest of their positions where it stands: "before W have come, all count"."""
     last = values[-width:]
     value = min(last)
-    return value, len(values) - last[::-1].index(value)
+    return value, len(values) - len(last) + 1 + last.index(value)
 
 
 def lines(stream):

@@ -14,7 +14,7 @@ use Rattle.history.proofs.Lowest.{minimum-least}
 use Rattle.blocks.specs.declared.Offset.{Offset}
 use Rattle.blocks.specs.declared.Found.{Found}
 use Rattle.blocks.specs.Takes.{minimumFrom, blockOf, blockCount, blockMinima}
-use Rattle.blocks.specs.Private.{LastPlace, lowerOf, withLeft, withRight, blocksBefore, Covers, OfBlocks}
+use Rattle.blocks.specs.Private.{PlaceOf, lowerOf, withLeft, withRight, blocksBefore, Covers, OfBlocks}
 use Rattle.blocks.proofs.Founds.{joined, shifted, handed-on}
 use Rattle.blocks.proofs.Indexes.{inBlock, Agree, agree}
 
@@ -42,7 +42,7 @@ covers-edge values index a e f l s q =
 -- THE BLOCKS WHOLLY INSIDE: their entries' least, v, stands in the block that is `rel` behind the first, and p is its place there
 pub of-blocks : (values index : List ℤ) (first end : ℕ) (v : ℤ) (rel : ℕ) (p : Offset) → first < end → end ≤ length index → length index ≡ blockCount (length values)
     → record { value = v; place = record { 0 = rel } } ≡ minimumFrom (take (end - first) (drop first index)) 0 → rel < length (take (end - first) (drop first index))
-    → LastPlace (blockOf values (first + rel)) v p
+    → PlaceOf (blockOf values (first + rel)) v p
     → OfBlocks values index first end (record { value = v; place = record { 0 = 64 * (first + rel) + p .0 } })
 of-blocks values index first end v rel p l h n q inside there =
     let short = length-take (end - first) (drop first index) in

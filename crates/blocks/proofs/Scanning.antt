@@ -55,7 +55,7 @@ so-far-more vs (suc k) m h e =
     rw (later, q)
     (sym (ap (λ (x : Minimum). x .value) more ∙ value-of (takesOver v (d .value)) d (standsAt v (next (presentAt (take (suc k) vs))))))
 
--- the least stands where it is found, and every value behind it is higher
+-- the least stands where it is found, and every value before it is higher
 module _ (vs : List ℤ) (h : 0 < length vs) where
   abbrev m : Minimum
   m = minimum vs first
@@ -66,11 +66,11 @@ module _ (vs : List ℤ) (h : 0 < length vs) where
   pub stands : getD vs (minimumFrom vs 0 .place .0) (pos 0) ≡ minimumFrom vs 0 .value
   stands = least .stands
 
-  pub none-behind : (k : ℕ) → k < length vs → getD vs k (pos 0) ≡ minimumFrom vs 0 .value → k ≤ minimumFrom vs 0 .place .0
-  none-behind k l e = elim (lt-or-ge (minimumFrom vs 0 .place .0) k) [
+  pub none-before : (k : ℕ) → getD vs k (pos 0) ≡ minimumFrom vs 0 .value → minimumFrom vs 0 .place .0 ≤ k
+  none-before k e = elim (lt-or-ge k (minimumFrom vs 0 .place .0)) [
     | inr g ↦ g
     | inl g ↦
         let back : k + 1 - 1 ≡ k = omega arith in
-        let higher = least .latest (record { 0 = k + 1 }) (omega (arith, least .from)) (omega arith) in
+        let higher = least .earliest (record { 0 = k + 1 }) (omega arith) (omega (arith, least .from)) in
         clash (leZ-refl (m .value)) (rw (back, e) at higher)
   ]

@@ -34,7 +34,7 @@ least v k = showing (record { value = v; place = record { 0 = k } })
 abbrev search : List ℤ → (entries i j : ℕ) → Told → Search
 search values entries i j t = record { values = values; entries = entries; i = i; j = j; tells = t }
 
--- takes: of four values; of one block, two of its values equal; of two blocks, the second with one value; of three, the third with one value, and −1 at offsets 60, 101 and 128
+-- takes: of four values; of one block, 4 at both ends and 9 between them; of two blocks, the second with one value; of three, the third with one value, and −1 at offsets 60, 101 and 128
 abbrev four : List ℤ
 four = pos 3 ∷ pos 1 ∷ pos 2 ∷ pos 1 ∷ []
 
@@ -49,28 +49,30 @@ three = replicate 60 (pos 5) ++ (negsuc 0 ∷ replicate 40 (pos 5)) ++ (negsuc 0
 
 abbrev pub searches : List Search
 searches =
-    -- among equal values the latest place; one value; the whole take
-    search four 1 0 3 (least (pos 1) 3)
-    ∷ search four 1 0 2 (least (pos 1) 1)
+    -- among equal values the earliest place that the range has; one value; the whole take
+    search four 1 0 3 (least (pos 1) 1)
+    ∷ search four 1 2 3 (least (pos 1) 3)
     ∷ search four 1 2 2 (least (pos 2) 2)
     ∷ search four 1 3 3 (least (pos 1) 3)
     -- 64 values are one block, wholly inside or not
-    ∷ search block 1 0 63 (least (pos 4) 63)
-    ∷ search block 1 0 62 (least (pos 4) 0)
-    ∷ search block 1 1 62 (least (pos 9) 62)
+    ∷ search block 1 0 63 (least (pos 4) 0)
+    ∷ search block 1 1 63 (least (pos 4) 63)
+    ∷ search block 1 1 62 (least (pos 9) 1)
     -- the last, shorter block, and ranges that end before it and in it
-    ∷ search two 2 0 64 (least (pos 4) 64)
-    ∷ search two 2 0 63 (least (pos 4) 63)
+    ∷ search two 2 0 64 (least (pos 4) 0)
+    ∷ search two 2 1 64 (least (pos 4) 63)
     ∷ search two 2 64 64 (least (pos 4) 64)
-    ∷ search two 2 1 62 (least (pos 9) 62)
+    ∷ search two 2 1 62 (least (pos 9) 1)
     -- 128 values are two blocks; ties across blocks and edges
-    ∷ search (block ++ block) 2 0 127 (least (pos 4) 127)
-    ∷ search (block ++ block) 2 63 126 (least (pos 4) 64)
-    ∷ search (block ++ block) 2 64 127 (least (pos 4) 127)
-    ∷ search three 3 0 128 (least (negsuc 0) 128)
-    ∷ search three 3 0 127 (least (negsuc 0) 101)
-    ∷ search three 3 60 100 (least (negsuc 0) 60)
-    ∷ search three 3 61 100 (least (pos 5) 100)
+    ∷ search (block ++ block) 2 0 127 (least (pos 4) 0)
+    ∷ search (block ++ block) 2 0 126 (least (pos 4) 0)
+    ∷ search (block ++ block) 2 63 126 (least (pos 4) 63)
+    ∷ search (block ++ block) 2 64 127 (least (pos 4) 64)
+    ∷ search three 3 0 128 (least (negsuc 0) 60)
+    ∷ search three 3 60 128 (least (negsuc 0) 60)
+    ∷ search three 3 61 128 (least (negsuc 0) 101)
+    ∷ search three 3 102 128 (least (negsuc 0) 128)
+    ∷ search three 3 61 100 (least (pos 5) 61)
     ∷ search three 3 64 127 (least (negsuc 0) 101)
     -- both ends of the values, −2,147,483,648 and 2,147,483,647
     ∷ search (pos 2147483647 ∷ negsuc 2147483647 ∷ pos 0 ∷ []) 1 0 2 (least (negsuc 2147483647) 1)

@@ -11,12 +11,12 @@ use Rattle.blocks.specs.declared.Offset.{Offset}
 use Rattle.blocks.specs.declared.Found.{Found}
 use Rattle.blocks.specs.Takes.{minimumFrom, blockCount, blockMinima}
 
--- `place_of`: an offset of the values; where v is the least of them, its place
-pub record LastPlace (values : List ℤ) (v : ℤ) (r : Offset) : Type 0 where
+-- `place_of`: an offset of the values; where v is the least of them, the earliest where it stands
+pub record PlaceOf (values : List ℤ) (v : ℤ) (r : Offset) : Type 0 where
   pub inside : r .0 < length values
   pub stands : v ≡ minimumFrom values 0 .value → r .0 ≡ minimumFrom values 0 .place .0
 
--- `lower`: of what is found in a range and in one that follows it
+-- `lower`: of what is found in a range and in one that follows it, by the same choice among equal values
 abbrev pub lowerOf : Found → Found → Found
 lowerOf earlier later = cond (takesOver (later .value) (earlier .value)) later earlier
 

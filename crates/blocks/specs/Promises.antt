@@ -33,7 +33,7 @@ Fitting values index = length index ≡ blockCount (length values)
 abbrev pub Outside : List ℤ → ℕ → ℕ → Type 0
 Outside values i j = (j < i) ⊎ (length values ≤ j)
 
--- "the least value from i to j with its latest place" is told: m is the least of the first j + 1 values from position i + 1 on, as the engine's `Least` has it, and its place is counted from 0
+-- "the least value from i to j" is told, with its earliest place (point 5): m is the least of the first j + 1 values from position i + 1 on, as the engine's `Least` has it, and its place is counted from 0
 abbrev pub TellsLeast : List ℤ → ℕ → ℕ → Reply → Type 0
 TellsLeast values i j r = (m : Minimum) × Least (take (j + 1) values) (record { 0 = i + 1 }) m × (told r ≡ showing (fromZero m))
 

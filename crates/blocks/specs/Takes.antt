@@ -21,8 +21,8 @@ fromZero m = record { value = m .value; place = record { 0 = m .place .0 - 1 } }
 abbrev pub minimumFrom : List ℤ → ℕ → Found
 minimumFrom values i = fromZero (minimum values (record { 0 = i + 1 }))
 
--- THE ANSWER OF A SEARCH, "the least value from i to j with its latest place": of the first j + 1 values, from offset i on, where i is at most j and j is below the take's length. No block is
--- in it
+-- THE ANSWER OF A SEARCH, "the least value from i to j", and of its places the earliest, no longer "its latest place": "The window and stored takes follow the same rule" (point 5). It is the
+-- least of the first j + 1 values, from offset i on, where i is at most j and j is below the take's length. No block is in it
 abbrev pub rangeMinimum : List ℤ → (i j : ℕ) → Found
 rangeMinimum values i j = minimumFrom (take (j + 1) values) i
 

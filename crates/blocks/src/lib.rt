@@ -7,7 +7,7 @@ ghost use lib.ListN.{length, take as front};
 ghost use Rattle.history.specs.Minima.{takesOver};
 ghost use Rattle.blocks.specs.Takes.{minimumFrom, blockOf, blockCount, told};
 ghost use Rattle.blocks.specs.Contracts.{Builds, Searches, Stretches};
-ghost use Rattle.blocks.specs.Private.{LastPlace, lowerOf, OfBlocks, withLeft, withRight, blocksBefore, Covers};
+ghost use Rattle.blocks.specs.Private.{PlaceOf, lowerOf, OfBlocks, withLeft, withRight, blocksBefore, Covers};
 use history::Refusal;
 
 // A place in a take, counted from 0.
@@ -62,7 +62,7 @@ fn block(take: &[i32], b: usize) -> &[i32]
 fn takes_over(later: i32, least: i32) -> bool
     ensures { λ r. ⌜ r ≡ takesOver later least ⌝ }
 {
-    later <= least
+    later < least
 }
 
 // The least value.
@@ -82,19 +82,20 @@ fn least_value(values: &[i32]) -> i32
     least
 }
 
-// The place of the least value, where that is `v`. If it is not, an offset all the same.
+// The place of the least value, where that is `v`: the first that equals it, since among equal values the earliest counts. If `v` is not
+// the least, an offset all the same.
 fn place_of(values: &[i32], v: i32) -> Offset
     requires { ⌜ 0 < length (now values) ⌝ }
-    ensures { λ r. ⌜ LastPlace (now (values .entry)) v r ⌝ }
+    ensures { λ r. ⌜ PlaceOf (now (values .entry)) v r ⌝ }
 {
-    let mut k = values.len() - 1;
-    while 0 < k {
-        if values[k] == v {
-            return Offset(k);
+    let mut offset = 0;
+    while offset < values.len() {
+        if values[offset] == v {
+            return Offset(offset);
         }
-        k -= 1;
+        offset += 1;
     }
-    Offset(k)
+    Offset(0)
 }
 
 // The least value of a slice, and its place in the slice.

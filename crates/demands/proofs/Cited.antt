@@ -57,7 +57,7 @@ every-run = plain.every-run
 only-fours : OnlyFours Opened Called
 only-fours = tied.only-fours
 
--- the starred examples, of the bookkeeper and of every run
+-- the starred examples and those of document 02, point 5, of the bookkeeper and of every run
 examples-worked : AllWorked examples
 examples-worked = worked.examples-worked
 
@@ -79,7 +79,7 @@ last-accepted : (h : History) (n : ℕ) (v : ℤ) → (h .words ≡ 0 → ⊥) �
     → (model .tells h n (Value v) ≡ numbered 0) × (model .step h n (Value v) .values ≡ h .values ++ (v ∷ []))
 last-accepted = worked.last-accepted
 
--- the dip is the least value's latest place, and nothing else is
+-- the dip is the least value at its earliest place from the mark on, and nothing else is
 minimum-least : (vs : List ℤ) (i : Position) → 0 < i .0 → i .0 ≤ length vs → Least vs i (minimum vs i)
 minimum-least = minima.minimum-least
 

@@ -2,7 +2,7 @@
 use mathlib.Core.Path.{_≡_, sym, ap, _∙_}
 use Prim.Native.Nat.{ℕ, _/_, _%_, _<_}
 use native.Mathlib.Omega.{arith}
-use lib.Dec.{leb}
+use lib.Dec.{ltb}
 use lib.IntN.{ℤ}
 use mir.Syntax.{w32}
 use mir.Val.{SFits}
@@ -13,8 +13,8 @@ use Rattle.signed.proofs.Offset.{back}
 use Rattle.signed.proofs.Ordered.{ordered}
 use Rattle.deque.specs.Words.{packed, valueIn, unpacked}
 
--- THE COMPARISON: a later value takes over from a word's entry where its word is at most the upper half
-pub compared : (v : ℤ) (e : ℕ) → SFits w32 v → e < 18446744073709551616 → leb (wordOf v) (e / 4294967296) ≡ takesOver v (valueIn e)
+-- THE COMPARISON: a later value takes over from a word's entry where its word is below the upper half
+pub compared : (v : ℤ) (e : ℕ) → SFits w32 v → e < 18446744073709551616 → ltb (wordOf v) (e / 4294967296) ≡ takesOver v (valueIn e)
 compared v e f l = sym (ordered v (e / 4294967296) f (omega arith))
 
 -- a packed entry reads back

@@ -39,7 +39,7 @@ fn unpack(w: u64) -> Minimum
 fn takes_over(later: i32, entry: u64) -> bool
     ensures { λ r. ⌜ r ≡ takesOver later (valueIn entry) ⌝ }
 {
-    signed::to_word(later) <= entry / 4294967296
+    signed::to_word(later) < entry / 4294967296
 }
 
 // No entries.

@@ -1,4 +1,4 @@
--- The starred examples come out in every run of the engine: by demand 3 it tells what the bookkeeper tells, and that computes to them.
+-- The examples of `history Examples` come out in every run of the engine: by demand 3 it tells what the bookkeeper tells, and that computes to them.
 use mathlib.Core.Path.{_≡_, ap, _∙_}
 use mathlib.Core.List.{List, [], _∷_, map}
 use Prim.Native.Nat.{ℕ}
@@ -33,6 +33,6 @@ gives-all (e ∷ es) w =
     let rest : map worked es ≡ es = cc in
     (gives e here, gives-all es rest)
 
--- THE STARRED EXAMPLES, by every run of the engine
+-- THE EXAMPLES, by every run of the engine
 pub examples-given : AllGiven Opened Called examples
 examples-given = gives-all examples examples-worked

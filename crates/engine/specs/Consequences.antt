@@ -1,4 +1,4 @@
--- What follows from demand 3. Its promises one by one and in plain numbers, for a run of any length; the starred examples of document 01, which come out in every run of their
+-- What follows from demand 3. Its promises one by one and in plain numbers, for a run of any length; the examples of `history Examples`, which come out in every run of their
 -- commands, on words of any content; and a refused opening, which is followed by replies 4 only.
 use mathlib.Core.Path.{_≡_}
 use mathlib.Core.Bool.{true, false}

@@ -97,7 +97,7 @@ pub fn open(area: &mut [u64]) -> Answer
     }
 }
 
-// The next value of the stream: it lowers each active mark's range minimum that is not below it.
+// The next value of the stream: it lowers each active mark's range minimum that is above it.
 pub fn value(s: Session, area: &mut [u64], v: i32) -> Answer
     ensures { λ r. ⌜ Does s (Value v) (now (area .entry)) (now (area .exit)) r ⌝ }
 {

@@ -1,5 +1,5 @@
 -- The laws of the range minimum: what one value more makes of it, what it is at the present position, and that it is the least
--- value's latest place and nothing else is.
+-- value's earliest place and nothing else is.
 use mathlib.Core.Path.{_≡_, refl, sym, ap, _∙_}
 use mathlib.Core.Bool.{Bool, true, false, cond}
 use mathlib.Core.List.{List, [], _∷_, _++_, append-assoc, append-nil}
@@ -10,12 +10,12 @@ use lib.IntN.{ℤ, pos}
 use lib.Signed.{leZ}
 use lib.ListN.{length, take, drop, length-append, length-drop, take-append-drop, List·getD-append}
 use lib.Seq.{drop-append-le, drop-length, getD-at, length-take-le, getD-take}
-use Rattle.laws.proofs.Tests.{clash, neither-below}
+use Rattle.laws.proofs.Tests.{clash, refuted, neither-below}
 use Rattle.laws.proofs.Order.{leZ-refl, leZ-trans}
 use Rattle.history.specs.declared.Position.{Position}
 use Rattle.history.specs.declared.Minimum.{Minimum}
 use Rattle.history.specs.Minima.{takesOver, lower, standsAt, next, lowest, presentAt, valueAt, lastOf, minimum, Least}
-use Rattle.history.proofs.Choice.{no-larger, no-smaller}
+use Rattle.history.proofs.Choice.{is-lower, no-larger, no-smaller}
 
 -- one value more at the end of a list of values
 length-more : (vs : List ℤ) (v : ℤ) → length (vs ++ (v ∷ [])) ≡ length vs + 1
@@ -80,7 +80,8 @@ least-more vs v i d z h l = go (takesOver v (d .value)) refl
         | no q ↦ rw (old k (omega arith) (omega (arith, q, more)))
             (leZ-trans v (d .value) (valueAt vs k) (no-larger v (d .value) e) (l .least k f (omega (arith, q, more))))
       ];
-      latest = λ k f t. absurd (omega (arith, more));
+      earliest = λ k f t. rw (old k (omega arith) (omega arith))
+          (refuted (leZ (valueAt vs k) v) (λ g. clash (leZ-trans (d .value) (valueAt vs k) v (l .least k f (omega arith)) g) (is-lower v (d .value) e)));
     }
     go false e = record {
       some = z;
@@ -91,10 +92,7 @@ least-more vs v i d z h l = go (takesOver v (d .value)) refl
         | yes q ↦ rw (new k q) (no-smaller v (d .value) e)
         | no q ↦ rw (old k (omega arith) (omega (arith, q, more))) (l .least k f (omega (arith, q, more)))
       ];
-      latest = λ k f t. elim (ℕ-discrete (k .0) (length vs + 1)) [
-        | yes q ↦ rw (new k q) e
-        | no q ↦ rw (old k (omega (arith, l .from)) (omega (arith, q, more))) (l .latest k f (omega (arith, q, more)))
-      ];
+      earliest = λ k f t. rw (old k (omega arith) (omega (arith, l .to))) (l .earliest k f t);
     }
 
 -- the least so far of the values before, and those that follow
@@ -120,7 +118,7 @@ minimum-least vs i z h =
       least = λ k f t.
           let e : _≡_ {A = Position} k i = λ x. record { 0 = only k f t x } in
           rw (e, a) (leZ-refl (valueAt vs i));
-      latest = λ k f t. absurd (omega arith);
+      earliest = λ k f t. absurd (omega arith);
     } in
     let r = lowest-least (take (i .0) vs) (drop (i .0) vs) i (standsAt (valueAt vs i) i) z (omega arith) first in
     rw (n, take-append-drop) at r
@@ -137,9 +135,9 @@ same-place vs {d = d} {e} l m p =
 -- of two minima of one position, neither stands before the other
 not-before : (vs : List ℤ) {i : Position} {d e : Minimum} → Least vs i d → Least vs i e → d .place .0 < e .place .0 → ⊥
 not-before vs {d = d} {e} l m p =
-    clash (rw (l .stands) at (m .least (d .place) (l .from) (l .to))) (rw (m .stands) at (l .latest (e .place) p (m .to)))
+    clash (rw (m .stands) at (l .least (e .place) (m .from) (m .to))) (rw (l .stands) at (m .earliest (d .place) (l .from) p))
 
--- AND NOTHING ELSE IS: "for a given tap the dip has one value and one place"
+-- AND NOTHING ELSE IS: "For a given tap the dip has one value and one place"
 pub least-only : (vs : List ℤ) (i : Position) (d e : Minimum) → Least vs i d → Least vs i e → d ≡ e
 least-only vs i d e l m = same-place vs l m (neither-below (not-before vs l m) (not-before vs m l))
 
@@ -166,6 +164,6 @@ minimum-later vs i z h l =
       to = m .to;
       stands = m .stands;
       least = λ k f t. m .least k (omega arith) t;
-      latest = m .latest;
+      earliest = λ k f t. m .earliest k (omega arith) t;
     } in
     least-only vs (next i) (minimum vs (next i)) (minimum vs i) (minimum-least vs (next i) (omega arith) (omega (arith, m .to))) later

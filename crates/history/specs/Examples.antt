@@ -1,4 +1,4 @@
--- Document 01, "Played examples": those marked *, in its order, with what stands in the same item. "Every case opens with 576 words (K = 1) unless it says otherwise."
+-- Document 01, "Played examples": those marked *, in its order, with what stands in the same item, and those of document 02, point 5, which changes one of them. "Every case opens with 576 words (K = 1) unless it says otherwise."
 -- That the model works them out so is the theorem `examples-worked` of proofs/Worked.
 use mathlib.Core.Path.{_≡_}
 use mathlib.Core.List.{List, [], _∷_, map}
@@ -61,8 +61,16 @@ examples =
     ∷ commanded (Query (at 0) ∷ []) (numbered 11 ∷ [])
     -- "V 5, M, Q 1: dip 5 at 1."
     ∷ commanded (Value (pos 5) ∷ Mark ∷ Query (at 1) ∷ []) (accepted ∷ accepted ∷ showing (standsAt (pos 5) (at 1)) ∷ [])
-    -- "V 5, M, V 5, Q 1: dip 5 at 2."
-    ∷ commanded (Value (pos 5) ∷ Mark ∷ Value (pos 5) ∷ Query (at 1) ∷ []) (accepted ∷ accepted ∷ accepted ∷ showing (standsAt (pos 5) (at 2)) ∷ [])
+    -- "V 5, M, V 5, Q 1 becomes 5 at 1." (document 02, point 5)
+    ∷ commanded (Value (pos 5) ∷ Mark ∷ Value (pos 5) ∷ Query (at 1) ∷ []) (accepted ∷ accepted ∷ accepted ∷ showing (standsAt (pos 5) (at 1)) ∷ [])
+    -- "V 5, M, V 5, M, then Q 1 gives place 1 and Q 2 gives place 2 (K = 2)." (document 02, point 5)
+    ∷ record {
+      words = 640;
+      opens = accepted;
+      limit = 2;
+      commands = Value (pos 5) ∷ Mark ∷ Value (pos 5) ∷ Mark ∷ Query (at 1) ∷ Query (at 2) ∷ [];
+      tells = accepted ∷ accepted ∷ accepted ∷ accepted ∷ showing (standsAt (pos 5) (at 1)) ∷ showing (standsAt (pos 5) (at 2)) ∷ [];
+    }
     -- "V 5, M, V 6, Q 1: dip 5 at 1."
     ∷ commanded (Value (pos 5) ∷ Mark ∷ Value (pos 6) ∷ Query (at 1) ∷ []) (accepted ∷ accepted ∷ accepted ∷ showing (standsAt (pos 5) (at 1)) ∷ [])
     -- "V −2,147,483,648, M, V 2,147,483,647, Q 1: dip −2,147,483,648 at 1." The value −n − 1 is `negsuc n`

@@ -91,7 +91,7 @@ abbrev pub accept : History → Command → Stepped
 accept h (Command.Value v) = record { history = becomes h (Command.Value v) (h .values ++ (v ∷ [])) (h .active) (h .peak); tells = accepted }
 -- "Mark: the present position joins the taps; standing marked. l rises to the number of taps where that is more."
 accept h Command.Mark = let joined : List Position = h .active ++ (presentOf h ∷ []) in record { history = becomes h Command.Mark (h .values) joined (max (h .peak) (length joined)); tells = accepted }
--- "Query: the reply shows the dip, taken over the written values; the paper stays."
+-- "Query: the reply shows the dip, taken over the written values; the paper stays." And "The bookkeeper of the third demand writes the earliest place from here" (document 02, point 5)
 accept h (Command.Query i) = record { history = h; tells = showing (minimum (h .values) i) }
 -- "Close: its position is struck from the taps. If it is the present position, standing is closed."
 accept h (Command.Close i) = record { history = becomes h (Command.Close i) (h .values) (without i (h .active)) (h .peak); tells = accepted }

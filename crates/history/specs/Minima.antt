@@ -4,17 +4,17 @@ use mathlib.Core.Bool.{Bool, true, false, cond}
 use mathlib.Core.List.{List, [], _∷_}
 use Prim.Native.Nat.{_+_, _-_, _<_, _≤_}
 use lib.IntN.{ℤ, pos}
-use lib.Signed.{leZ}
+use lib.Signed.{leZ, ltZ}
 use lib.ListN.{length, getD, drop}
 use Rattle.history.specs.declared.Position.{Position}
 use Rattle.history.specs.declared.Minimum.{Minimum}
 
--- "Where the least value stands at several of those positions, the place is the latest": a later value takes over from the least before it where it is no larger.
--- This is where the choice among equal values is made; `Least.latest` states it once more, independently
+-- "Among equal least values the place is the earliest at or after the tap" (document 02, point 5, in place of document 01's "the place is the latest"): a later value takes over from the
+-- least before it where it is lower. This is where the choice among equal values is made; `Least.earliest` states it once more, independently
 abbrev pub takesOver : ℤ → ℤ → Bool
-takesOver later least = leZ later least
+takesOver later least = ltZ later least
 
--- the lower of the least so far and a later value
+-- the lower of the least so far and a later value; where they are equal, the least so far
 abbrev pub lower : Minimum → Minimum → Minimum
 lower least later = cond (takesOver (later .value) (least .value)) later least
 
@@ -49,7 +49,7 @@ lastOf values = valueAt values (presentAt values)
 abbrev pub minimum : List ℤ → Position → Minimum
 minimum values i = lowest (standsAt (valueAt values i) i) (next i) (drop (i .0) values)
 
--- What makes it the dip: it stands at one of the positions from i to the present, no value there is lower, and each later one is higher.
+-- What makes it the dip: it stands at one of the positions from i to the present, no value there is lower, and each earlier one there is higher.
 -- That `minimum` is so, and that nothing else is, are laws of proofs/Lowest
 pub record Least (values : List ℤ) (i : Position) (m : Minimum) : Type 0 where
   pub some : 1 ≤ i .0
@@ -57,4 +57,4 @@ pub record Least (values : List ℤ) (i : Position) (m : Minimum) : Type 0 where
   pub to : m .place .0 ≤ length values
   pub stands : valueAt values (m .place) ≡ m .value
   pub least : (k : Position) → i .0 ≤ k .0 → k .0 ≤ length values → leZ (m .value) (valueAt values k) ≡ true
-  pub latest : (k : Position) → m .place .0 < k .0 → k .0 ≤ length values → leZ (valueAt values k) (m .value) ≡ false
+  pub earliest : (k : Position) → i .0 ≤ k .0 → k .0 < m .place .0 → leZ (valueAt values k) (m .value) ≡ false

@@ -161,16 +161,27 @@ traces =
       session = inSession 704 3 3 (pos 3) 1 Marked;
       bound = 640;
     }
-    -- "Query: the reply shows the dip, taken over the written values; the paper stays." Three marks share one, and an older one has its own
+    -- "Query: the reply shows the dip, taken over the written values; the paper stays." Three marks share a dip; an older one has its own, and so has a
+    -- younger one, whose dip has the same value at a later place: "Two taps with one dip value may now have different places" (document 02, point 5)
     ∷ record {
-      opened = 832;
+      opened = 896;
       opens = accepted;
-      commands = each 832 (value 2 ∷ Mark ∷ value 5 ∷ Mark ∷ value 7 ∷ Mark ∷ value 3 ∷ Mark ∷ value 3 ∷ value 4 ∷ Query (at 1) ∷ Query (at 2) ∷ Query (at 3) ∷ Query (at 4) ∷ []);
-      tells = accepted ∷ accepted ∷ accepted ∷ accepted ∷ accepted ∷ accepted ∷ accepted ∷ accepted ∷ accepted ∷ accepted ∷ showing (standsAt (pos 2) (at 1))
-          ∷ showing (standsAt (pos 3) (at 5)) ∷ showing (standsAt (pos 3) (at 5)) ∷ showing (standsAt (pos 3) (at 5)) ∷ [];
-      state = inState 832 5 (pos 2 ∷ pos 5 ∷ pos 7 ∷ pos 3 ∷ pos 3 ∷ pos 4 ∷ []) (at 1 ∷ at 2 ∷ at 3 ∷ at 4 ∷ []) Unmarked 4;
-      session = inSession 832 5 6 (pos 4) 4 Unmarked;
-      bound = 768;
+      commands = each 896 (value 2 ∷ Mark ∷ value 5 ∷ Mark ∷ value 7 ∷ Mark ∷ value 3 ∷ Mark ∷ value 3 ∷ Mark ∷ value 4 ∷ Query (at 1) ∷ Query (at 2) ∷ Query (at 3) ∷ Query (at 4) ∷ Query (at 5) ∷ []);
+      tells = accepted ∷ accepted ∷ accepted ∷ accepted ∷ accepted ∷ accepted ∷ accepted ∷ accepted ∷ accepted ∷ accepted ∷ accepted ∷ showing (standsAt (pos 2) (at 1))
+          ∷ showing (standsAt (pos 3) (at 4)) ∷ showing (standsAt (pos 3) (at 4)) ∷ showing (standsAt (pos 3) (at 4)) ∷ showing (standsAt (pos 3) (at 5)) ∷ [];
+      state = inState 896 6 (pos 2 ∷ pos 5 ∷ pos 7 ∷ pos 3 ∷ pos 3 ∷ pos 4 ∷ []) (at 1 ∷ at 2 ∷ at 3 ∷ at 4 ∷ at 5 ∷ []) Unmarked 5;
+      session = inSession 896 6 6 (pos 4) 5 Unmarked;
+      bound = 832;
+    }
+    -- a value takes over from a higher dip, and not from one that equals it
+    ∷ record {
+      opened = 704;
+      opens = accepted;
+      commands = each 704 (value 3 ∷ Mark ∷ value 4 ∷ Mark ∷ value 3 ∷ Query (at 1) ∷ Query (at 2) ∷ []);
+      tells = accepted ∷ accepted ∷ accepted ∷ accepted ∷ accepted ∷ showing (standsAt (pos 3) (at 1)) ∷ showing (standsAt (pos 3) (at 3)) ∷ [];
+      state = inState 704 3 (pos 3 ∷ pos 4 ∷ pos 3 ∷ []) (at 1 ∷ at 2 ∷ []) Unmarked 2;
+      session = inSession 704 3 3 (pos 3) 2 Unmarked;
+      bound = 640;
     }
     -- "Close: its position is struck from the taps." An older one leaves the standing, be it unmarked, marked or closed
     ∷ record {

@@ -1,11 +1,14 @@
--- The order of ℤ as tests: `leZ` is reflexive, transitive and total.
-use mathlib.Core.Path.{_≡_, refl, sym}
-use mathlib.Core.Bool.{true, false}
+-- The order of ℤ as tests: `leZ` is reflexive, transitive and total, and `ltZ` is its negation, the other way round.
+use mathlib.Core.Path.{_≡_, refl, sym, ap, _∙_}
+use mathlib.Core.Bool.{true, false, not}
+use mathlib.Core.Logic.{⊎-elim}
+use Prim.Native.Nat.{ℕ, _<_, _≤_}
 use native.Mathlib.Omega.{arith}
+use lib.Dec.{leb, ltb}
 use lib.IntN.{ℤ, pos, negsuc}
-use lib.Signed.{leZ}
-use borrow.Author.Tests.{leb-true, leb-false, le-leb}
-use Rattle.laws.proofs.Tests.{clash}
+use lib.Signed.{leZ, ltZ}
+use borrow.Author.Tests.{leb-true, leb-false, le-leb, lt-leb, lt-ltb, le-ltb}
+use Rattle.laws.proofs.Tests.{clash, lt-or-ge}
 
 pub leZ-refl : (a : ℤ) → leZ a a ≡ true
 leZ-refl (pos a) = le-leb a a (omega arith)
@@ -25,3 +28,13 @@ leZ-total (pos a) (pos b) h = le-leb b a (omega (arith, leb-false a b h))
 leZ-total (pos a) (negsuc b) h = refl
 leZ-total (negsuc a) (pos b) h = clash refl h
 leZ-total (negsuc a) (negsuc b) h = le-leb a b (omega (arith, leb-false b a h))
+
+-- a number is below another where the other is not at most it, and so is a value
+ltb-leb : (a b : ℕ) → ltb a b ≡ not (leb b a)
+ltb-leb a b = ⊎-elim (λ (l : a < b). lt-ltb a b l ∙ sym (ap not (lt-leb b a l))) (λ (l : b ≤ a). le-ltb a b l ∙ sym (ap not (le-leb b a l))) (lt-or-ge a b)
+
+pub ltZ-leZ : (a b : ℤ) → ltZ a b ≡ not (leZ b a)
+ltZ-leZ (pos a) (pos b) = ltb-leb a b
+ltZ-leZ (pos a) (negsuc b) = refl
+ltZ-leZ (negsuc a) (pos b) = refl
+ltZ-leZ (negsuc a) (negsuc b) = ltb-leb b a

@@ -1,6 +1,6 @@
 -- What is the program's own choice in its output. Document 02, point 3: "Correct replies presuppose an index built from that take; otherwise the search stays in bounds, and the value and place
 -- shown are its own choice." The program searches over an index that request 04 has altered, too; so what a search finds is no function of the bytes there. It is whatever `blocks` promises
--- of that search (`Choice`): over the take's index the least value of the range with its latest place, over any other index of as many entries some value, and a place of the range. All else in the
+-- of that search (`Choice`): over the take's index the least value of the range with its earliest place, over any other index of as many entries some value, and a place of the range. All else in the
 -- output is a function of the bytes.
 use mathlib.Core.Path.{_≡_}
 use mathlib.Core.List.{List, [], _∷_, map}
@@ -37,7 +37,7 @@ pub record Prints (bytes text : List ℕ) : Type 0 where
   pub allowed : AllAllowed (takeOf (readOf bytes)) (builtOf (readOf bytes)) (requestsOf (readOf bytes)) found
   pub says : text ≡ outputOf found bytes
 
--- what each search finds by the definition alone, whatever the index holds: "the least value from i to j with its latest place"
+-- what each search finds by the definition alone, whatever the index holds: "the least value from i to j", with its earliest place (point 5)
 abbrev pub leastFor : List ℤ → Request → Found
 leastFor values (Search i j) = rangeMinimum values i j
 leastFor values (Stretch i j) = unused

@@ -12,7 +12,7 @@ times (suc n) bytes = bytes ++ times n bytes
 
 abbrev pub examples : List Example
 examples =
-    -- the latest of equal values, in the whole take and in a part of it: build 0, index -3, 1 search 0 -3 3, 2 search 0 -3 1, 3 stretch 2 -3 7, end 3
+    -- the earliest of equal values in the whole take, and the later one in a part that begins behind it: build 0, index -3, 1 search 0 -3 1, 2 search 0 -3 3, 3 stretch 2 -3 7, end 3
     record {
       bytes =
           4 ∷ 0 ∷ 0 ∷ 0
@@ -22,14 +22,14 @@ examples =
           ∷ 253 ∷ 255 ∷ 255 ∷ 255
           ∷ 1 ∷ 0 ∷ 0 ∷ 0
           ∷ 1 ∷ 0 ∷ 0 ∷ 0 ∷ 0 ∷ 3 ∷ 0 ∷ 0 ∷ 0 ∷ 0 ∷ 0 ∷ 0 ∷ 0
-          ∷ 1 ∷ 0 ∷ 0 ∷ 0 ∷ 0 ∷ 2 ∷ 0 ∷ 0 ∷ 0 ∷ 0 ∷ 0 ∷ 0 ∷ 0
+          ∷ 1 ∷ 2 ∷ 0 ∷ 0 ∷ 0 ∷ 3 ∷ 0 ∷ 0 ∷ 0 ∷ 0 ∷ 0 ∷ 0 ∷ 0
           ∷ 2 ∷ 1 ∷ 0 ∷ 0 ∷ 0 ∷ 2 ∷ 0 ∷ 0 ∷ 0 ∷ 0 ∷ 0 ∷ 0 ∷ 0
           ∷ [];
       output =
           98 ∷ 117 ∷ 105 ∷ 108 ∷ 100 ∷ 32 ∷ 48 ∷ 10
           ∷ 105 ∷ 110 ∷ 100 ∷ 101 ∷ 120 ∷ 32 ∷ 45 ∷ 51 ∷ 10
-          ∷ 49 ∷ 32 ∷ 115 ∷ 101 ∷ 97 ∷ 114 ∷ 99 ∷ 104 ∷ 32 ∷ 48 ∷ 32 ∷ 45 ∷ 51 ∷ 32 ∷ 51 ∷ 10
-          ∷ 50 ∷ 32 ∷ 115 ∷ 101 ∷ 97 ∷ 114 ∷ 99 ∷ 104 ∷ 32 ∷ 48 ∷ 32 ∷ 45 ∷ 51 ∷ 32 ∷ 49 ∷ 10
+          ∷ 49 ∷ 32 ∷ 115 ∷ 101 ∷ 97 ∷ 114 ∷ 99 ∷ 104 ∷ 32 ∷ 48 ∷ 32 ∷ 45 ∷ 51 ∷ 32 ∷ 49 ∷ 10
+          ∷ 50 ∷ 32 ∷ 115 ∷ 101 ∷ 97 ∷ 114 ∷ 99 ∷ 104 ∷ 32 ∷ 48 ∷ 32 ∷ 45 ∷ 51 ∷ 32 ∷ 51 ∷ 10
           ∷ 51 ∷ 32 ∷ 115 ∷ 116 ∷ 114 ∷ 101 ∷ 116 ∷ 99 ∷ 104 ∷ 32 ∷ 50 ∷ 32 ∷ 45 ∷ 51 ∷ 32 ∷ 55 ∷ 10
           ∷ 101 ∷ 110 ∷ 100 ∷ 32 ∷ 51 ∷ 10
           ∷ [];
@@ -54,7 +54,7 @@ examples =
           ∷ 101 ∷ 110 ∷ 100 ∷ 32 ∷ 51 ∷ 10
           ∷ [];
     }
-    -- 65 equal values, which are two blocks: all of them, exactly the first block, the shorter last one, and a stretch across: build 0, index 7 7, 1 search 0 7 64, 2 search 0 7 63,
+    -- 65 equal values, which are two blocks: all of them, exactly the first block, the shorter last one, and a stretch across: build 0, index 7 7, 1 search 0 7 0, 2 search 0 7 0,
     -- 3 search 0 7 64, 4 stretch 2 7 7, end 4
     ∷ record {
       bytes =
@@ -69,8 +69,8 @@ examples =
       output =
           98 ∷ 117 ∷ 105 ∷ 108 ∷ 100 ∷ 32 ∷ 48 ∷ 10
           ∷ 105 ∷ 110 ∷ 100 ∷ 101 ∷ 120 ∷ 32 ∷ 55 ∷ 32 ∷ 55 ∷ 10
-          ∷ 49 ∷ 32 ∷ 115 ∷ 101 ∷ 97 ∷ 114 ∷ 99 ∷ 104 ∷ 32 ∷ 48 ∷ 32 ∷ 55 ∷ 32 ∷ 54 ∷ 52 ∷ 10
-          ∷ 50 ∷ 32 ∷ 115 ∷ 101 ∷ 97 ∷ 114 ∷ 99 ∷ 104 ∷ 32 ∷ 48 ∷ 32 ∷ 55 ∷ 32 ∷ 54 ∷ 51 ∷ 10
+          ∷ 49 ∷ 32 ∷ 115 ∷ 101 ∷ 97 ∷ 114 ∷ 99 ∷ 104 ∷ 32 ∷ 48 ∷ 32 ∷ 55 ∷ 32 ∷ 48 ∷ 10
+          ∷ 50 ∷ 32 ∷ 115 ∷ 101 ∷ 97 ∷ 114 ∷ 99 ∷ 104 ∷ 32 ∷ 48 ∷ 32 ∷ 55 ∷ 32 ∷ 48 ∷ 10
           ∷ 51 ∷ 32 ∷ 115 ∷ 101 ∷ 97 ∷ 114 ∷ 99 ∷ 104 ∷ 32 ∷ 48 ∷ 32 ∷ 55 ∷ 32 ∷ 54 ∷ 52 ∷ 10
           ∷ 52 ∷ 32 ∷ 115 ∷ 116 ∷ 114 ∷ 101 ∷ 116 ∷ 99 ∷ 104 ∷ 32 ∷ 50 ∷ 32 ∷ 55 ∷ 32 ∷ 55 ∷ 10
           ∷ 101 ∷ 110 ∷ 100 ∷ 32 ∷ 52 ∷ 10

@@ -1,4 +1,4 @@
-// Answers that document 01 implies and its examples do not show, a line each.
+// Answers that documents 01 and 02 imply and document 01's examples do not show, a line each.
 use crate::call;
 use crate::examples;
 use crate::lent;
@@ -27,12 +27,27 @@ fn unopened() {
     print::end(s);
 }
 
-// Two marks share a dip, with K = 2.
-fn shared_minimum() {
+// Two marks with one dip value, each at its own place: document 02, point 5, with K = 2.
+fn two_places() {
     let mut area = [0u64; 640];
     let s = call::open(&mut area);
     let s = script::run(s, &mut area, b"V5 M V5 M Q1 Q2");
     print::end(s);
+}
+
+// Three of them, on words for four marks: one is closed, an equal value takes over from none, and a lower one from all. The words from
+// 512 + 64 * 3 on keep the pattern.
+fn side_by_side() {
+    let mut area = [0u64; 768];
+    compare::fill(&mut area);
+    let s = call::open(&mut area);
+    let s = script::run(
+        s,
+        &mut area,
+        b"V5 M V5 M V5 M Q1 Q2 Q3 C2 V5 Q1 Q3 V4 Q1 Q3",
+    );
+    print::session(s);
+    lent::print_changed(&area, 704);
 }
 
 // An older mark keeps its dip through many rounds, whose closed marks are recovered by rebuilds. The area is opened for 4,096 marks, and two
@@ -52,9 +67,10 @@ pub fn sequences() {
     other_lengths();
     // Refusals in a row leave position 2 unmarked, and it is marked once a Close makes room.
     examples::play(b"V1 M V2 M M Q2 C2 M C1 M Q2");
-    // Among equal values the latest place counts, also after a greater one.
+    // Among equal values the earliest place counts, also where a greater one stands between them.
     examples::play(b"V3 M V3 V4 V3 Q1");
-    shared_minimum();
+    two_places();
+    side_by_side();
     rebuilds();
     unopened();
 }

@@ -5,7 +5,7 @@ use Rattle.text.specs.Examples.{Example}
 
 abbrev pub examples : List Example
 examples =
-    -- a window of two values on 4 words, and 3, 1, 2, 2: open 0, 1 0 3 1, 2 0 1 2, 3 0 1 2, 4 0 2 4, end 4 4
+    -- a window of two values on 4 words, and 3, 1, 2, 2: open 0, 1 0 3 1, 2 0 1 2, 3 0 1 2, 4 0 2 3, end 4 4
     record {
       bytes =
           2 ∷ 0 ∷ 0 ∷ 0
@@ -20,7 +20,7 @@ examples =
           ∷ 49 ∷ 32 ∷ 48 ∷ 32 ∷ 51 ∷ 32 ∷ 49 ∷ 10
           ∷ 50 ∷ 32 ∷ 48 ∷ 32 ∷ 49 ∷ 32 ∷ 50 ∷ 10
           ∷ 51 ∷ 32 ∷ 48 ∷ 32 ∷ 49 ∷ 32 ∷ 50 ∷ 10
-          ∷ 52 ∷ 32 ∷ 48 ∷ 32 ∷ 50 ∷ 32 ∷ 52 ∷ 10
+          ∷ 52 ∷ 32 ∷ 48 ∷ 32 ∷ 50 ∷ 32 ∷ 51 ∷ 10
           ∷ 101 ∷ 110 ∷ 100 ∷ 32 ∷ 52 ∷ 32 ∷ 52 ∷ 10
           ∷ [];
     }

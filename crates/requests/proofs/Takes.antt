@@ -44,7 +44,7 @@ indexes-worked = worked.indexes-worked
 stretches-worked : map stretched stretches ≡ stretches
 stretches-worked = worked.stretches-worked
 
-examples-count : (length searches ≡ 34) × (length indexes ≡ 8) × (length stretches ≡ 8)
+examples-count : (length searches ≡ 36) × (length indexes ≡ 8) × (length stretches ≡ 8)
 examples-count = (refl, refl, refl)
 
 searches-given : Each (SearchGives Searched) searches
@@ -93,7 +93,7 @@ stretch-gives : stretch-function.signature .result ≡ SliceRefOf (0 ∷ []) tt 
 stretch-gives = refl
 
 -- the first worked examples, of any call: a search of 3, 1, 2, 1; building for no values; and the stretch of the two in the middle
-first-search : (r : Reply) → Searched (pos 3 ∷ pos 1 ∷ pos 2 ∷ pos 1 ∷ []) (pos 1 ∷ []) 0 3 r → told r ≡ showing (record { value = pos 1; place = record { 0 = 3 } })
+first-search : (r : Reply) → Searched (pos 3 ∷ pos 1 ∷ pos 2 ∷ pos 1 ∷ []) (pos 1 ∷ []) 0 3 r → told r ≡ showing (record { value = pos 1; place = record { 0 = 1 } })
 unfolding lowest blockMinimaFrom
 first-search r q = searches-given .0 (pos 1 ∷ []) r q refl (λ n. refl)
 
@@ -143,7 +143,7 @@ module _ (values : List ℤ) where
       let e = point-3 .index values .entries b h in
       (e .0 .place .0 - 1, omega (arith, e .1 .from, e .1 .to), rw (e .2) (e .1 .stands))
 
--- WHAT IS TOLD OF A LEAST, in offsets: it stands in the range, no value there is lower, and each later one is higher
+-- WHAT IS TOLD OF A LEAST, in offsets: it stands in the range, no value there is lower, and each earlier one there is higher
 module _ (values : List ℤ) (i j : ℕ) (s : Reply) (l : i ≤ j) (h : j < length values) (t : TellsLeast values i j s) where
   abbrev m : Minimum
   m = t .0
@@ -169,18 +169,19 @@ module _ (values : List ℤ) (i j : ℕ) (s : Reply) (l : i ≤ j) (h : j < leng
       let r = t .1 .least (record { 0 = k + 1 }) (omega arith) (omega (arith, long)) in
       rw (back, getD-take (j + 1) values k (pos 0) (omega arith)) at r
 
-  pub found-latest : (k : ℕ) → found .place .0 < k → k ≤ j → leZ (getD values k (pos 0)) (found .value) ≡ false
-  found-latest k a e =
+  -- "The window and stored takes follow the same rule" (point 5)
+  pub found-earliest : (k : ℕ) → i ≤ k → k < found .place .0 → leZ (getD values k (pos 0)) (found .value) ≡ false
+  found-earliest k a e =
       let back : k + 1 - 1 ≡ k = omega arith in
-      let r = t .1 .latest (record { 0 = k + 1 }) (omega (arith, t .1 .from)) (omega (arith, long)) in
-      rw (back, getD-take (j + 1) values k (pos 0) (omega arith)) at r
+      let r = t .1 .earliest (record { 0 = k + 1 }) (omega arith) (omega (arith, t .1 .from)) in
+      rw (back, getD-take (j + 1) values k (pos 0) (omega (arith, found-inside .1))) at r
 
-  -- and nothing else is: whatever stands in the range, with no value there lower and each later one higher, is what is told
+  -- and nothing else is: whatever stands in the range, with no value there lower and each earlier one there higher, is what is told
   pub found-only : (f : Found) → i ≤ f .place .0 → f .place .0 ≤ j → getD values (f .place .0) (pos 0) ≡ f .value
       → ((k : ℕ) → i ≤ k → k ≤ j → leZ (f .value) (getD values k (pos 0)) ≡ true)
-      → ((k : ℕ) → f .place .0 < k → k ≤ j → leZ (getD values k (pos 0)) (f .value) ≡ false)
+      → ((k : ℕ) → i ≤ k → k < f .place .0 → leZ (getD values k (pos 0)) (f .value) ≡ false)
       → told s ≡ showing f
-  found-only f a e v low late =
+  found-only f a e v low early =
       let at : (k : ℕ) → k ≤ j → getD (take (j + 1) values) k (pos 0) ≡ getD values k (pos 0) = λ k b. getD-take (j + 1) values k (pos 0) (omega arith) in
       let back : f .place .0 + 1 - 1 ≡ f .place .0 = omega arith in
       let other : Minimum = record { value = f .value; place = record { 0 = f .place .0 + 1 } } in
@@ -190,7 +191,7 @@ module _ (values : List ℤ) (i j : ℕ) (s : Reply) (l : i ≤ j) (h : j < leng
         to = omega (arith, long);
         stands = rw (back, at (f .place .0) e) v;
         least = λ k b t. rw (at (k .0 - 1) (omega (arith, long))) (low (k .0 - 1) (omega arith) (omega (arith, long)));
-        latest = λ k b t. rw (at (k .0 - 1) (omega (arith, long))) (late (k .0 - 1) (omega arith) (omega (arith, long)));
+        earliest = λ k b t. rw (at (k .0 - 1) (omega arith)) (early (k .0 - 1) (omega arith) (omega arith));
       } in
       found-told ∙ ap (λ (x : Minimum). showing (fromZero x)) (least-only (take (j + 1) values) (record { 0 = i + 1 }) m other (t .1) is)
       ∙ ap (λ (k : ℕ). showing (record { value = f .value; place = record { 0 = k } })) back

@@ -29,7 +29,7 @@ use Rattle.firmware.proofs.filkotar_build as build-function
 use Rattle.firmware.proofs.filkotar_build.Reads as build-reads
 use Rattle.firmware.proofs.filkotar_search as search-function
 use Rattle.firmware.proofs.filkotar_search.Reads as search-reads
-use Rattle.requests.proofs.Takes.{found-told, found-inside, found-stands, found-least, found-latest}
+use Rattle.requests.proofs.Takes.{found-told, found-inside, found-stands, found-least, found-earliest}
 
 -- THE TYPES are those of include/filkotar.h, where a slice is a pointer and a length: the numbers of what is found, in this order, and what each function takes and gives
 found-numbers : found-type.struct .parts ≡ u32-field ∷ i32-field ∷ usize-field ∷ []
@@ -92,14 +92,14 @@ module _ (values before after : List ℤ) (r : ℕ) (t : BuildTold values before
   built : r ≡ 0 → after ≡ blockMinima values
   built z = elim (ℕ-discrete (length before) (blockCount (length values))) [ yes n ↦ build-0 n .1 | no n ↦ absurd (omega (arith, build-15 n .0)) ]
 
--- THE LEAST VALUE from take[i] to take[j] is what r shows, at the latest of its places
+-- THE LEAST VALUE from take[i] to take[j] is what r shows, at the earliest of its places (points 3 and 5)
 pub record Shows (values : List ℤ) (i j : ℕ) (r : FoundNumbers) : Type 0 where
   pub accepted : r .number ≡ 0
   pub from : i ≤ r .place
   pub to : r .place ≤ j
   pub stands : getD values (r .place) (pos 0) ≡ r .value
   pub least : (k : ℕ) → i ≤ k → k ≤ j → leZ (r .value) (getD values k (pos 0)) ≡ true
-  pub latest : (k : ℕ) → r .place < k → k ≤ j → leZ (getD values k (pos 0)) (r .value) ≡ false
+  pub earliest : (k : ℕ) → i ≤ k → k < r .place → leZ (getD values k (pos 0)) (r .value) ≡ false
 
 tells : (values : List ℤ) (i j : ℕ) (a : Reply) (r : FoundNumbers) → r ≡ inNumbers (told a) → i ≤ j → j < length values → TellsLeast values i j a → Shows values i j r
 tells values i j a r e l h t =
@@ -110,7 +110,7 @@ tells values i j a r e l h t =
       to = inside .1;
       stands = found-stands values i j a l h t;
       least = found-least values i j a l h t;
-      latest = found-latest values i j a l h t;
+      earliest = found-earliest values i j a l h t;
     })
 
 -- SEARCHING
@@ -133,7 +133,7 @@ module _ (values index : List ℤ) (i j : ℕ) (r : FoundNumbers) (t : SearchTol
   search-far : length index ≡ (length values + 63) / 64 → 4294967296 ≤ i → i ≤ j → j < length values → (r .number ≡ 0) × (4294967296 ≤ r .place)
   search-far n f l h = let a = search-0 n l h in (a .0, omega (arith, a .1))
 
-  -- "Correct replies presuppose an index built from that take": then it is the least value, with its latest place
+  -- "Correct replies presuppose an index built from that take": then it is the least value, with its earliest place
   search-least : index ≡ blockMinima values → i ≤ j → j < length values → Shows values i j r
   search-least e l h = tells values i j (t .3 .reply) r (t .3 .numbers) l h (point-3 .searching values index i j (t .3 .reply) (t .3 .searches) .least e l h)
 

@@ -57,7 +57,7 @@ as-a-tap = theorem.as-a-tap
 examples-worked : map worked examples ≡ examples
 examples-worked = given.examples-worked
 
-examples-count : length examples ≡ 21
+examples-count : length examples ≡ 22
 examples-count = refl
 
 examples-given : AllGiven Opened Valued examples
@@ -177,12 +177,13 @@ module _ (width : ℕ) (first left : List ℕ) (o : Answer) (calls : List (Call 
         × ((k : Position) → oldest (presentAt (later .values)) (p .width) .0 ≤ k .0 → k .0 ≤ length (later .values) → leZ (m .value) (valueAt (later .values) k) ≡ true)
     value-least own h = let g = meets .1 .gets own h in (g .0, g .1, g .2 .stands, g .2 .least)
 
-    -- and nothing else is shown: it stands in the window, and each later value is higher
+    -- and nothing else is shown: it stands in the window, and (point 5) each earlier value there is higher
     pub shown-inside : (m : Minimum) → c .told .shown ≡ some m → (oldest (presentAt (later .values)) (p .width) .0 ≤ m .place .0) × (m .place .0 ≤ length (later .values))
     shown-inside m e = let l = meets .1 .shown m e in (l .from, l .to)
 
-    pub shown-latest : (m : Minimum) → c .told .shown ≡ some m → (k : Position) → m .place .0 < k .0 → k .0 ≤ length (later .values) → leZ (valueAt (later .values) k) (m .value) ≡ false
-    shown-latest m e = meets .1 .shown m e .latest
+    pub shown-earliest : (m : Minimum) → c .told .shown ≡ some m → (k : Position) → oldest (presentAt (later .values)) (p .width) .0 ≤ k .0 → k .0 < m .place .0
+        → leZ (valueAt (later .values) k) (m .value) ≡ false
+    shown-earliest m e = meets .1 .shown m e .earliest
 
 -- "Values enter one by one and leave when W newer ones have come; before W have come, all count."
 value-stays : (width present k : ℕ) → 1 ≤ width → 1 ≤ k → k ≤ present → present < k + width → oldest (record { 0 = present }) width .0 ≤ k
@@ -238,16 +239,16 @@ openings-worked = (refl, refl, refl)
 oldest-worked : (oldest (record { 0 = 143 }) 144 .0 ≡ 1) × (oldest (record { 0 = 144 }) 144 .0 ≡ 1) × (oldest (record { 0 = 145 }) 144 .0 ≡ 2) × (oldest (record { 0 = 9 }) 1 .0 ≡ 9)
 oldest-worked = (refl, refl, refl, refl)
 
--- an example, by every run of its values: W = 2: 3, 1, 2, 2 tells 3 at 1, 1 at 2, 1 at 2, 2 at 4
+-- an example, by every run of its values: W = 2: 3, 1, 2, 2 tells 3 at 1, 1 at 2, 1 at 2, 2 at 3
 pub example-given : (first left : List ℕ) (o : Answer) (calls : List (Call model)) → length first ≡ 4 → Opened 2 first left o
     → Made model (Answered Valued) (opening (length first) 2 .paper .words) (o .session) left calls → commandsOf model calls ≡ pos 3 ∷ pos 1 ∷ pos 2 ∷ pos 2 ∷ []
     → AllLent model 4 calls
     → toldTo model calls
-    ≡ showing (standsAt (pos 3) (record { 0 = 1 })) ∷ showing (standsAt (pos 1) (record { 0 = 2 })) ∷ showing (standsAt (pos 1) (record { 0 = 2 })) ∷ showing (standsAt (pos 2) (record { 0 = 4 })) ∷ []
+    ≡ showing (standsAt (pos 3) (record { 0 = 1 })) ∷ showing (standsAt (pos 1) (record { 0 = 2 })) ∷ showing (standsAt (pos 1) (record { 0 = 2 })) ∷ showing (standsAt (pos 2) (record { 0 = 3 })) ∷ []
 example-given first left o calls l q m vs a = examples-given .1 .1 .1 .1 .1 .1 .1 .1 .1 .1 .1 .1 .1 .1 .0 first left o calls l q m vs a .tells
 
 -- and one whose opening is refused: a value is told 4
 pub refused-given : (first left : List ℕ) (o : Answer) (calls : List (Call model)) → length first ≡ 4 → Opened 0 first left o
     → Made model (Answered Valued) (opening (length first) 0 .paper .words) (o .session) left calls → commandsOf model calls ≡ pos 1 ∷ [] → AllLent model 4 calls
     → toldTo model calls ≡ numbered 4 ∷ []
-refused-given first left o calls l q m vs a = examples-given .1 .1 .1 .1 .1 .1 .1 .1 .1 .1 .1 .1 .1 .1 .1 .1 .1 .1 .1 .0 first left o calls l q m vs a .tells
+refused-given first left o calls l q m vs a = examples-given .1 .1 .1 .1 .1 .1 .1 .1 .1 .1 .1 .1 .1 .1 .1 .1 .1 .1 .1 .1 .0 first left o calls l q m vs a .tells

@@ -32,7 +32,7 @@ abbrev pub entering : List Line
 entering = (pos 3, 4, least (pos 3) 1) ∷ (negsuc 8, 5, numbered 5) ∷ (pos 1, 4, least (pos 1) 2) ∷ []
 
 abbrev pub leaving : List Line
-leaving = (negsuc 8, 0, numbered 5) ∷ (pos 2, 4, least (pos 1) 2) ∷ (pos 2, 4, least (pos 2) 4) ∷ []
+leaving = (negsuc 8, 0, numbered 5) ∷ (pos 2, 4, least (pos 1) 2) ∷ (pos 2, 4, least (pos 2) 3) ∷ []
 
 abbrev pub lines : List Line
 lines = entering ++ leaving

@@ -1,5 +1,6 @@
 -- The stack of source document 000 in the lent words. Each entry holds the range minimum that a run of consecutive rows shares
--- (its Lemma 5), the run's first row with it; the values never fall from the bottom to the top (its Lemma 3, where they rise).
+-- (its Lemma 5), the run's first row with it; the values never fall from the bottom to the top. In its Lemma 3 they rise; here entries of
+-- equal value stand side by side where their places differ (document 02, point 5).
 use mathlib.Core.Path.{_≡_}
 use mathlib.Core.Bool.{true}
 use mathlib.Core.List.{List}

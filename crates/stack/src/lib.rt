@@ -19,7 +19,7 @@ pub enum Low {
 fn takes_over(later: i32, least: i32) -> bool
     ensures { λ r. ⌜ r ≡ takesOver later least ⌝ }
 {
-    later <= least
+    later < least
 }
 
 // The lowest of the places up to the height whose entry a value takes over, or the height where it takes over none.

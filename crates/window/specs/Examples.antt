@@ -66,15 +66,17 @@ examples =
     ∷ opened 4096 8191 (numbered 13)
     ∷ opened 4096 8192 accepted
     ∷ opened 4096 8193 accepted
-    -- W = 2: 3, 1, 2, 2 tells 3 at 1, 1 at 2, 1 at 2, 2 at 4
-    ∷ valued 2 4 (pos 3 ∷ pos 1 ∷ pos 2 ∷ pos 2 ∷ []) (least (pos 3) 1 ∷ least (pos 1) 2 ∷ least (pos 1) 2 ∷ least (pos 2) 4 ∷ [])
+    -- W = 2: 3, 1, 2, 2 tells 3 at 1, 1 at 2, 1 at 2, 2 at 3
+    ∷ valued 2 4 (pos 3 ∷ pos 1 ∷ pos 2 ∷ pos 2 ∷ []) (least (pos 3) 1 ∷ least (pos 1) 2 ∷ least (pos 1) 2 ∷ least (pos 2) 3 ∷ [])
     -- W = 1 tells the value just given
     ∷ valued 1 2 (pos 5 ∷ pos 9 ∷ negsuc 2 ∷ []) (least (pos 5) 1 ∷ least (pos 9) 2 ∷ least (negsuc 2) 3 ∷ [])
-    -- among equal values the latest place
-    ∷ valued 4 8 (pos 7 ∷ pos 7 ∷ pos 8 ∷ pos 7 ∷ []) (least (pos 7) 1 ∷ least (pos 7) 2 ∷ least (pos 7) 2 ∷ least (pos 7) 4 ∷ [])
+    -- among equal values the earliest place that has not left
+    ∷ valued 4 8 (pos 7 ∷ pos 7 ∷ pos 8 ∷ pos 7 ∷ pos 9 ∷ []) (least (pos 7) 1 ∷ least (pos 7) 1 ∷ least (pos 7) 1 ∷ least (pos 7) 1 ∷ least (pos 7) 2 ∷ [])
+    -- a constant stream: always the oldest position
+    ∷ valued 3 6 (pos 5 ∷ pos 5 ∷ pos 5 ∷ pos 5 ∷ pos 5 ∷ []) (least (pos 5) 1 ∷ least (pos 5) 1 ∷ least (pos 5) 1 ∷ least (pos 5) 2 ∷ least (pos 5) 3 ∷ [])
     -- both ends of the range, −2,147,483,648 and 2,147,483,647, are ordinary values; the least leaves when W newer ones have come, here on words of a longer area
     ∷ valued 3 9 (pos 2147483647 ∷ negsuc 2147483647 ∷ pos 6 ∷ pos 6 ∷ pos 2147483647 ∷ pos 2147483647 ∷ pos 2147483647 ∷ [])
-    (least (pos 2147483647) 1 ∷ least (negsuc 2147483647) 2 ∷ least (negsuc 2147483647) 2 ∷ least (negsuc 2147483647) 2 ∷ least (pos 6) 4 ∷ least (pos 6) 4 ∷ least (pos 2147483647) 7 ∷ [])
+    (least (pos 2147483647) 1 ∷ least (negsuc 2147483647) 2 ∷ least (negsuc 2147483647) 2 ∷ least (negsuc 2147483647) 2 ∷ least (pos 6) 3 ∷ least (pos 6) 4 ∷ least (pos 2147483647) 5 ∷ [])
     -- "before W have come, all count"
     ∷ valued 144 288 (pos 4 ∷ pos 9 ∷ []) (least (pos 4) 1 ∷ least (pos 4) 1 ∷ [])
     -- a value after a refused opening gets 4

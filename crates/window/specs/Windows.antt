@@ -45,7 +45,7 @@ opening n width = cond (eqb (openingRefusal n width) 0)
 abbrev pub oldest : (present : Position) (width : ℕ) → Position
 oldest present width = record { 0 = max 1 (present .0 - (width - 1)) }
 
--- "the dip of the last W values": "It equals what a tap at the window's oldest position would be told, whether or not a tap stands there."
+-- "the dip of the last W values": "It equals what a tap at the window's oldest position would be told, whether or not a tap stands there." And, by the same definition, "The window and stored takes follow the same rule" (point 5)
 abbrev pub least : (width : ℕ) → List ℤ → Minimum
 least width values = minimum values (oldest (presentAt values) width)
 

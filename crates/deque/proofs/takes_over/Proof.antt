@@ -2,7 +2,7 @@
 use mathlib.Core.Path.{_≡_, ap, _∙_}
 use Prim.Native.Nat.{ℕ, _/_}
 use native.Mathlib.Omega.{arith}
-use lib.Dec.{leb}
+use lib.Dec.{ltb}
 use borrow.Author.Needs.{needs}
 use mir.Facts.{toZ-ofZ}
 use Rattle.signed.specs.Word.{wordOf}
@@ -19,7 +19,7 @@ to-word-requires c κs = search needs
 
 returns : tie.Need-returns
 returns c =
-    ap (λ (n : ℕ). leb n (c .before .args .entry / 4294967296)) (word c)
+    ap (λ (n : ℕ). ltb n (c .before .args .entry / 4294967296)) (word c)
     ∙ compared (c .before .args .later) (c .before .args .entry) (c .before .fits .later) (omega arith)
 
 pub takes-over-spec : {M : Type 1} → statement M
