@@ -38,11 +38,11 @@ impl<'a> Ours<'a> {
     }
 }
 
-// The plain scan, in one go: the least value, from the end on, so that of equal values the latest is kept.
+// The plain scan, in one go: the least value, of equal ones the first.
 #[no_mangle]
 #[inline(never)]
 pub fn scan_once(take: &[i32], i: usize, j: usize) -> (i32, usize) {
-    let (place, &value) = take[i..=j].iter().enumerate().rev().min_by_key(|&(_, value)| value).unwrap();
+    let (place, &value) = take[i..=j].iter().enumerate().min_by_key(|&(_, value)| value).unwrap();
     (value, i + place)
 }
 
@@ -52,7 +52,7 @@ pub fn scan_once(take: &[i32], i: usize, j: usize) -> (i32, usize) {
 pub fn scan_twice(take: &[i32], i: usize, j: usize) -> (i32, usize) {
     let range = &take[i..=j];
     let value = range.iter().copied().min().unwrap();
-    (value, i + range.iter().rposition(|&v| v == value).unwrap())
+    (value, i + range.iter().position(|&v| v == value).unwrap())
 }
 
 // The usual sparse table: at level k, for each i, the place of the least of the 2^k values from i on. Two entries answer any range.
@@ -70,8 +70,8 @@ impl<'a> Table<'a> {
             // level 0, where each place is its own, is left out
             let level = (0..=take.len() - 2 * half)
                 .map(|i| match levels.last() {
-                    None => later(take, i as u32, i as u32 + 1),
-                    Some(before) => later(take, before[i], before[i + half]),
+                    None => lower(take, i as u32, i as u32 + 1),
+                    Some(before) => lower(take, before[i], before[i + half]),
                 })
                 .collect();
             levels.push(level);
@@ -85,10 +85,10 @@ impl<'a> Table<'a> {
     }
 }
 
-// Of two places, the second one later: where the lower value stands, the later of equal ones.
+// Of two places, the second one later: where the lower value stands, the earlier of equal ones.
 #[inline(always)]
-fn later(take: &[i32], a: u32, b: u32) -> u32 {
-    if take[b as usize] <= take[a as usize] {
+fn lower(take: &[i32], a: u32, b: u32) -> u32 {
+    if take[b as usize] < take[a as usize] {
         b
     } else {
         a
@@ -103,7 +103,7 @@ pub fn table_search(table: &Table, i: usize, j: usize) -> (i32, usize) {
     } else {
         let k = (j - i + 1).ilog2() as usize;
         let level = &table.levels[k - 1];
-        later(table.take, level[i], level[j + 1 - (1 << k)])
+        lower(table.take, level[i], level[j + 1 - (1 << k)])
     };
     (table.take[place as usize], place as usize)
 }
@@ -367,22 +367,30 @@ fn count_building(side: &str, length: usize) {
     };
 }
 
-// The longest searches of ranges of a length, one for each place of a block where a range can begin, of a take that goes on behind the range and of one that ends with it. The least value
-// of each part of the range, the index's and that of the block among them, stands first in it, so that it is the last that is looked at.
+// The longest searches of ranges of a length, for each place of a block where a range can begin, of a take that goes on behind the range and of one that ends with it. The least value of each
+// part of the range stands last in it, so that it is the last that is looked at; so it is with the entry among its block of entries, and with the value in the block of that entry. And where
+// there is such an entry, the same again with one that no value of its block equals, so that all of them are looked at in vain.
 fn calls(length: usize) {
     for begin in 64..128usize {
         for behind in [64, 0] {
-            let mut values = vec![7; begin + length + behind];
-            let (first, end) = (begin.next_multiple_of(64), (begin + length) / 64 * 64);
-            values[begin] = 3;
-            if first < begin + length {
-                values[first] = 2;
+            let end = begin + length;
+            let mut values = vec![7; end + behind];
+            // the blocks that are wholly inside go from `first` to before `last`
+            let (first, last) = (begin.div_ceil(64), if behind == 0 { end.div_ceil(64) } else { end / 64 });
+            let entry = (first + 63).min(last.max(1) - 1);
+            if first < last {
+                values[64 * first - 1] = 3;
+                values[(64 * entry + 63).min(end - 1)] = 2;
             }
-            if first < end && end < begin + length {
-                values[end] = 1;
+            if last <= first || 64 * last < end {
+                values[end - 1] = 1;
             }
-            let ours = Ours::new(&values);
-            assert_eq!(ours.search(begin, begin + length - 1), scan_once(&values, begin, begin + length - 1));
+            let mut ours = Ours::new(&values);
+            assert_eq!(ours.search(begin, end - 1), scan_once(&values, begin, end - 1));
+            if first < last {
+                ours.index[entry] = -9;
+                black_box(ours.search(begin, end - 1));
+            }
         }
     }
 }

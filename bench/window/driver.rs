@@ -67,7 +67,7 @@ impl Peer {
     fn inlined(&mut self, v: i32) -> (i32, u32) {
         self.present += 1;
         while let Some(&(back, _)) = self.entries.back() {
-            if back >= v {
+            if back > v {
                 self.entries.pop_back();
             } else {
                 break;
@@ -104,7 +104,7 @@ pub extern "C" fn peer_c_value(s: Session, entries: &mut VecDeque<(i32, u32)>, l
     }
     let present = s.present + 1;
     while let Some(&(back, _)) = entries.back() {
-        if back >= v {
+        if back > v {
             entries.pop_back();
         } else {
             break;
