@@ -30,31 +30,32 @@ module _ (first words : List ℕ) (h : History) (s : Session) (run : Reached Ope
   pub bound-in-force : (i : ℕ) → 512 + 64 * h .peak ≤ i → getD words i 0 ≡ getD first i 0
   bound-in-force = every-run .stands first words h s run .rest
 
-  -- whatever a Query of i shows, lent the opening's words or others
-  module _ (i : Position) (lent left : List ℕ) (a : Answer) (own : (h .words ≡ 0 → ⊥) → length lent ≡ h .words → lent ≡ words) (call : Called s (Query i) lent left a)
-      (m : Minimum) (shows : told (a .reply) .shown ≡ some m) where
+  -- what a Query of i is told, lent the opening's words or others
+  module _ (i : Position) (lent left : List ℕ) (a : Answer) (own : (h .words ≡ 0 → ⊥) → length lent ≡ h .words → lent ≡ words) (call : Called s (Query i) lent left a) where
     replied : Replied h (Query i) lent left (told (a .reply))
     replied = every-run .replies first words h s run (Query i) lent left a own call
 
-    least : Least (h .values) i m
-    least = replied .onlyLeast i m refl shows .1
+    -- whatever is shown
+    module _ (m : Minimum) (shows : told (a .reply) .shown ≡ some m) where
+      least : Least (h .values) i m
+      least = replied .onlyLeast i m refl shows .1
 
-    -- "The bookkeeper of the third demand writes the earliest place from here": what is shown is what the bookkeeper's step shows
-    pub bookkeeper-shows : step h (length lent) (Query i) .tells .shown ≡ some m
-    bookkeeper-shows = sym (replied .shown) ∙ shows
+      -- "The bookkeeper of the third demand writes the earliest place from here": what is shown is what the bookkeeper's step shows
+      pub bookkeeper-shows : step h (length lent) (Query i) .tells .shown ≡ some m
+      bookkeeper-shows = sym (replied .shown) ∙ shows
 
-    -- "Among equal least values the place is the earliest at or after the tap." It stands from the mark to the present, no value there is lower, and each earlier one there is higher
-    pub at-or-after : (i .0 ≤ m .place .0) × (m .place .0 ≤ length (h .values))
-    at-or-after = (least .from, least .to)
+      -- "Among equal least values the place is the earliest at or after the tap." It stands from the mark to the present, no value there is lower, and each earlier one there is higher
+      pub at-or-after : (i .0 ≤ m .place .0) × (m .place .0 ≤ length (h .values))
+      at-or-after = (least .from, least .to)
 
-    pub stands-there : valueAt (h .values) (m .place) ≡ m .value
-    stands-there = least .stands
+      pub stands-there : valueAt (h .values) (m .place) ≡ m .value
+      stands-there = least .stands
 
-    pub none-lower : (k : Position) → i .0 ≤ k .0 → k .0 ≤ length (h .values) → leZ (m .value) (valueAt (h .values) k) ≡ true
-    none-lower = least .least
+      pub none-lower : (k : Position) → i .0 ≤ k .0 → k .0 ≤ length (h .values) → leZ (m .value) (valueAt (h .values) k) ≡ true
+      none-lower = least .least
 
-    pub earlier-higher : (k : Position) → i .0 ≤ k .0 → k .0 < m .place .0 → leZ (valueAt (h .values) k) (m .value) ≡ false
-    earlier-higher = least .earliest
+      pub earlier-higher : (k : Position) → i .0 ≤ k .0 → k .0 < m .place .0 → leZ (valueAt (h .values) k) (m .value) ≡ false
+      earlier-higher = least .earliest
 
 abbrev at : ℕ → Position
 at n = record { 0 = n }

@@ -35,7 +35,7 @@ cast-if2 : tie.Need-cast-if2
 cast-if2 c = search needs
 
 returns-2 : tie.Need-returns-2
-returns-2 c = at-top _ _ (c .before .before .before .before .read-header .ensures) (omega arith) (c .if2 .taken)
+returns-2 c = at-top _ _ (c .before .before .before .before .read-header .ensures) (omega arith) (omega (arith, c .if2 .taken))
 
 returns-3 : tie.Need-returns-3
 returns-3 c = not-at-top _ _ (c .before .before .before .before .read-header .ensures) (omega arith) (c .if2 .left)
