@@ -2,7 +2,7 @@
 """Whether the stored output of `played` is what documents 01 and 02 give, worked out by brute force from the commands that stand in it.
 
 Every reply, least value, place, session and bound on the written words is worked out anew, a line's parts one after the other, by the plain history of tests/bookkeeper.py and the plain
-window of tests/windows.py; nothing here is taken from the crates' code. Passed over are the lines of the last position, whose sessions were made by hand.
+window of tests/windows.py; nothing here is taken from the crates' code. The lines of the last position, whose sessions are made by hand, are worked out by hand and written down here.
 
   python3 tests/played.py
 """
@@ -17,17 +17,25 @@ import windows
 STORED = 'crates/played/stdout'
 STANDINGS = ['none', 'unmarked', 'marked', 'closed']
 # the value that a round repeats, by the number of rounds
-ROUNDS = {100000: 7, 10000: 5}
+ROUNDS = {'100000': 7, '10000': 5}
+BY_HAND = [
+    'lent 576 V -2147483648: 0; M: 0; Q 4294967295: 0, -2147483648 at 4294967295; N 576, K 1, present 4294967295, last -2147483648, active 1, marked',
+    'lent 576 V 1: 6; 0 words changed, session equal',
+    'window 1 on 2: 0; lent 2 V -2147483648: 0, -2147483648 at 4294967295; lent 2 V 1: 6; 0 words changed; lent 3 V 1: 5; 0 words changed; N 2, W 1, present 4294967295',
+]
 
 
 class Board:
     """The engine after an opening of any length, each command lent some length."""
 
+    commands = 'M|[VQC] -?[0-9]+'
+    unchanged = '0 words changed, session equal'
+
     def __init__(self, words):
-        self.number = 0 if words >= 576 else 1
-        self.words = words if self.number == 0 else 0
+        self.reply = 0 if words >= 576 else 1
+        self.words = words if self.reply == 0 else 0
         self.history = bookkeeper.History(self.words) if self.words else None
-        self.lent, self.most, self.reply = words, 0, 0
+        self.lent, self.most = words, 0
 
     def tell(self, letter, argument):
         if self.words == 0 or self.lent != self.words:
@@ -37,38 +45,27 @@ class Board:
         self.most = max(self.most, len(self.history.marks))
         return str(self.reply) + (', {} at {}'.format(*shown) if shown else '')
 
-    def play(self, rounds):
-        """So many rounds of a Value, a Mark and a Close of it: how many commands were accepted."""
-        told = []
-        for _ in range(rounds):
-            told += [self.tell('V', ROUNDS[rounds]), self.tell('M', 0), self.tell('C', len(self.history.values))]
-        return f'{rounds} rounds: {told.count("0")} accepted'
-
-    def put(self, standing):
-        self.history.standing = standing
-        return f'put to {standing}'
-
-    def standing(self):
-        return self.history.standing
-
     def session(self):
         if self.words == 0:
             return 'N 0, K 0, present 0, last 0, active 0, none'
         h = self.history
         return f'N {self.words}, K {h.limit}, present {len(h.values)}, last {(h.values or [0])[-1]}, active {len(h.marks)}, {h.standing}'
 
+    # "With l the most taps active together so far, every word from index 512 + 64 × l on is still as it was lent."
     def bound(self):
-        """"With l the most taps active together so far, every word from index 512 + 64 × l on is still as it was lent.\""""
         return 512 + 64 * self.most if self.words else 0
 
 
 class Window:
     """The look-ahead window after an opening of any length and W, each value lent some length."""
 
+    commands = 'V -?[0-9]+'
+    unchanged = '0 words changed'
+
     def __init__(self, width, words):
-        self.number = windows.refusal(width, words)
-        self.words, self.width = (0, 0) if self.number else (words, width)
-        self.values, self.lent, self.reply = [], words, 0
+        self.reply = windows.refusal(width, words)
+        self.words, self.width = (0, 0) if self.reply else (words, width)
+        self.values, self.lent = [], words
 
     def tell(self, letter, value):
         if self.words == 0 or self.lent != self.words:
@@ -85,58 +82,88 @@ class Window:
         return 2 * self.width
 
 
-def reading(hexadecimal):
-    """What a reading of some bytes answers."""
-    stream = bytes.fromhex(hexadecimal)
+def opened(said):
+    """What an opening of engine or window leads to, or nothing where the part is none."""
+    if m := re.match(r'open ([0-9]+):', said):
+        board = Board(int(m[1]))
+    elif m := re.match(r'window ([0-9]+) on ([0-9]+):', said):
+        board = Window(int(m[1]), int(m[2]))
+    else:
+        return None
+    return f'{m[0]} {board.reply}', board
+
+
+def reading(said):
+    """What a reading of the bytes answers."""
+    head = re.match(r'bytes((?: [0-9a-f]{2})*):', said)
+    stream = bytes.fromhex(head[1])
     found = bookkeeper.read(stream) if stream else 'end'
-    if not isinstance(found, tuple):
-        return str(found)
-    letter, argument, length = found
-    return (letter if letter == 'M' else f'{letter} {argument}') + f', length {length}'
+    if isinstance(found, tuple):
+        letter, argument, length = found
+        found = (letter if letter == 'M' else f'{letter} {argument}') + f', length {length}'
+    return f'{head[0]} {found}'
+
+
+def played(rounds, board):
+    """So many rounds of a Value, a Mark and a Close of it: how many commands were accepted."""
+    accepted = 0
+    for _ in range(int(rounds)):
+        for letter in 'VMC':
+            argument = {'V': ROUNDS[rounds], 'M': 0, 'C': len(board.history.values)}[letter]
+            accepted += board.tell(letter, argument) == '0'
+    return f'{rounds} rounds: {accepted} accepted'
 
 
 def part(said, board):
-    """A part of a line, its commands taken from what is stored and all else worked out; and the board then."""
-    if m := re.match(r'bytes((?: [0-9a-f]{2})*):', said):
-        return f'bytes{m[1]}: {reading(m[1])}', board
-    if m := re.match(r'open (\d+):', said):
-        board = Board(int(m[1]))
-        return f'{m[0]} {board.number}', board
-    if m := re.match(r'window (\d+) on (\d+):', said):
-        board = Window(int(m[1]), int(m[2]))
-        return f'{m[0]} {board.number}', board
-    if m := re.match(r'(lent (\d+) )?([VMQC])( -?\d+)?:', said):
-        board.lent = int(m[2]) if m[2] else board.lent
-        return f'{m[0]} {board.tell(m[3], int(m[4] or 0))}', board
-    if m := re.match(r'(\d+) rounds:', said):
-        return board.play(int(m[1])), board
-    if said in STANDINGS:
-        return board.standing(), board
-    if m := re.match(r'put to (\w+)', said):
-        return board.put(m[1]), board
+    """A part of a line behind an opening: its command is taken from what is stored, and all else worked out. Where it is none that `played` prints, nothing."""
+    if m := re.match(rf'(?:lent ([0-9]+) )?({board.commands}):', said):
+        board.lent = int(m[1]) if m[1] else board.lent
+        return f'{m[0]} {board.tell(m[2][0], int(m[2][2:] or 0))}'
     if said.startswith('N '):
-        return board.session(), board
+        return board.session()
     if said.startswith('words changed'):
-        return f'words changed from {board.bound()} on: 0', board
-    # behind a refusal alone
-    return '0 words changed' + (', session equal' if isinstance(board, Board) else '') if board.reply else 'accepted', board
+        return f'words changed from {board.bound()} on: 0'
+    if said == board.unchanged and board.reply != 0:
+        return said
+    if isinstance(board, Board) and board.words:
+        if (m := re.match(r'([0-9]+) rounds:', said)) and m[1] in ROUNDS:
+            return played(m[1], board)
+        if said in STANDINGS:
+            return board.history.standing
+        if (m := re.fullmatch(r'put to (.*)', said)) and m[1] in STANDINGS:
+            board.history.standing = m[1]
+            return said
+    return None
 
 
-def main():
-    board, wrong = None, []
-    with open(STORED, encoding='utf-8') as f:
-        lines = f.read().splitlines()
-    for n, line in enumerate(lines, 1):
-        if str(bookkeeper.LAST_POSITION) in line or ': 6; ' in line:
+def lines(stored):
+    """The lines, worked out. Most begin with an opening; some of the refusals' go on where the last line ended."""
+    board = None
+    for line in stored:
+        if line in BY_HAND:
+            yield line
+            continue
+        if line.startswith('bytes'):
+            yield reading(line)
             continue
         parts = []
         for said in line.split('; '):
-            text, board = part(said, board)
-            parts.append(text)
-        if '; '.join(parts) != line:
-            wrong.append(f'{STORED}, line {n}: {line}\n{" " * 12}worked out: {"; ".join(parts)}')
-    print(*wrong, sep='\n', end='\n' if wrong else '', file=sys.stderr)
-    return 1 if wrong or not lines else 0
+            if found := opened(said):
+                text, board = found
+            else:
+                text = part(said, board) if board else None
+            parts.append(text or 'nothing that is worked out')
+        yield '; '.join(parts)
+
+
+def main():
+    with open(STORED, encoding='utf-8') as f:
+        stored = f.read().splitlines()
+    wrong = [f'line {n}: {line}\n  worked out: {right}' for n, (line, right) in enumerate(zip(stored, lines(stored)), 1) if line != right]
+    wrong += [f'{stored.count(line)} times, and not once: {line}' for line in BY_HAND if stored.count(line) != 1]
+    for w in wrong:
+        print(f'{STORED}, {w}', file=sys.stderr)
+    return 1 if wrong else 0
 
 
 sys.exit(main())

@@ -15,8 +15,8 @@ pub struct Run {
 }
 
 // A mark at a position after all others joins the marks, with its range minimum. Source document 000's Mark pushes the value, "unless it
-// is there already": here it is, where the top entry stands at the minimum's own place. An equal value at an earlier place is another
-// entry (document 02, point 5).
+// is there already". It counts as there where the top entry stands at the minimum's own place; an equal value at an earlier place is
+// another entry (document 02, point 5).
 pub fn append(area: &mut [u64], p: Position, m: Minimum)
     ensures { λ r. ⌜ Appended (now (area .entry)) (now (area .exit)) p m ⌝ }
 {
