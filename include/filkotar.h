@@ -112,7 +112,7 @@ filkotar_window_answer filkotar_window_open(uint64_t *area, uint64_t length, uin
  * With 4, 5 and 6 nothing has happened: session is s, no word is written, and value and place are 0.
  *
  * With 0, session is { s.words, s.width, s.present + 1 }. value is the least of the last s.width values that were accepted, this one among them, or of
- * all where there are fewer; and place is its position. Where it stands at several of theirs, it is the earliest.
+ * all where there are fewer; and place is its position: where it stands at several of theirs, the earliest.
  *
  * The call is as safe with a session that no call returned, or with words that hold something else than the last call left. It stays within the `length`
  * words, returns, and gives the number and the session above; value and place may then be any.
@@ -174,7 +174,7 @@ uint32_t filkotar_build(const int32_t *take, uint64_t length, int32_t *index, ui
  * With 15 and 14 value and place are 0. i and j may be any numbers, up to UINT64_MAX.
  *
  * With 0, and with an index that filkotar_build wrote for this take, neither of them altered since: value is the least of take[i] to take[j], and place is
- * where it stands there, the first such place. So place is from i to j, value is take[place], and none of take[i] to take[place - 1] is as low.
+ * where it stands there: at several, the first. So place is from i to j, value is take[place], and every value from take[i] to before take[place] is higher.
  *
  * The call is as safe with an index that holds something else. It stays within the `length` values and the `blocks` entries, returns, and gives the number
  * above. With 0, place is then one from i to j, but which one, and value, may be any. In no case is the take or the index written.
