@@ -40,9 +40,9 @@ module _ (first words : List ℕ) (h : History) (s : Session) (run : Reached Ope
       least : Least (h .values) i m
       least = replied .onlyLeast i m refl shows .1
 
-      -- "The bookkeeper of the third demand writes the earliest place from here": what is shown is what the bookkeeper's step shows
-      pub bookkeeper-shows : step h (length lent) (Query i) .tells .shown ≡ some m
-      bookkeeper-shows = sym (replied .shown) ∙ shows
+      -- "The bookkeeper of the third demand writes the earliest place from here": what is shown is what the history's step shows
+      pub history-shows : step h (length lent) (Query i) .tells .shown ≡ some m
+      history-shows = sym (replied .shown) ∙ shows
 
       -- "Among equal least values the place is the earliest at or after the tap." It stands from the mark to the present, no value there is lower, and each earlier one there is higher
       pub at-or-after : (i .0 ≤ m .place .0) × (m .place .0 ≤ length (h .values))
