@@ -3,6 +3,7 @@ use mathlib.Core.Path.{_≡_, refl, sym, ap, _∙_}
 use mathlib.Core.Bool.{Bool, true, false, cond}
 use mathlib.Core.List.{List, [], _∷_}
 use mathlib.Core.Logic.{inl, inr}
+use mathlib.Core.Option.{none, some}
 use Prim.Native.Nat.{ℕ, zero, suc, _+_, _-_, _<_, _≤_, max}
 use native.Mathlib.Omega.{arith}
 use lib.IntN.{ℤ, pos}
@@ -14,7 +15,7 @@ use Rattle.history.specs.declared.Position.{Position}
 use Rattle.history.specs.declared.Minimum.{Minimum}
 use Rattle.history.specs.Minima.{takesOver, lower, standsAt, next, lowest, presentAt, minimum, Least}
 use Rattle.history.proofs.Lowest.{minimum-more, minimum-least}
-use Rattle.blocks.specs.Takes.{minimumFrom}
+use Rattle.blocks.specs.Takes.{minimumFrom, leastOf}
 
 abbrev first : Position
 first = record { 0 = 1 }
@@ -74,3 +75,12 @@ module _ (vs : List ℤ) (h : 0 < length vs) where
         let higher = least .earliest (record { 0 = k + 1 }) (omega arith) (omega (arith, least .from)) in
         clash (leZ-refl (m .value)) (rw (back, e) at higher)
   ]
+
+-- of no values there is no least, and of some there is
+pub least-none : (vs : List ℤ) → length vs ≡ 0 → leastOf vs ≡ none
+least-none [] e = refl
+least-none (v ∷ vs) e = absurd (omega (arith, e))
+
+pub least-some : (vs : List ℤ) → 0 < length vs → leastOf vs ≡ some (minimumFrom vs 0 .value)
+least-some [] h = absurd (omega (arith, h))
+least-some (v ∷ vs) h = refl

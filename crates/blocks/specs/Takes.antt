@@ -2,14 +2,17 @@
 -- there are only declared types here: a minimum, an offset with what is found there, a refusal and a reply. In these files a take is `values`; `take n` is of lists, their first n elements.
 use mathlib.Core.Bool.{cond, _||_}
 use mathlib.Core.List.{List, [], _∷_}
+use mathlib.Core.Option.{Option, none, some}
 use Prim.Native.Nat.{ℕ, zero, suc, _+_, _*_, _-_, _/_}
 use lib.Dec.{eqb, leb, ltb}
 use lib.IntN.{ℤ}
 use lib.ListN.{length, take, drop}
 use Rattle.history.specs.declared.Minimum.{Minimum}
+use Rattle.history.specs.declared.Due.{Due}
 use Rattle.history.specs.Minima.{minimum}
 use Rattle.history.specs.Replies.{ToldOf, numbered, showing, numberOf}
 use Rattle.blocks.specs.declared.Found.{Found}
+use Rattle.blocks.specs.declared.Known.{Known}
 use Rattle.blocks.specs.declared.Reply.{Reply}
 
 -- "numbered from 0": what stands at position k of a stream, counted from 1, stands at offset k − 1 of a take
@@ -20,6 +23,15 @@ fromZero m = record { value = m .value; place = record { 0 = m .place .0 - 1 } }
 -- longer than a stream, and i + 1 more than the highest position: the definition of the minimum knows no highest
 abbrev pub minimumFrom : List ℤ → ℕ → Found
 minimumFrom values i = fromZero (minimum values (record { 0 = i + 1 }))
+
+-- the least of some values, where there are any, and what is known of it in the program
+abbrev pub leastOf : List ℤ → Option ℤ
+leastOf [] = none
+leastOf (v ∷ vs) = some (minimumFrom (v ∷ vs) 0 .value)
+
+abbrev pub figure : Known → Option ℤ
+figure Known.Nothing = none
+figure (Known.Value v) = some v
 
 -- THE ANSWER OF A SEARCH, "the least value from i to j", and of its places the earliest, no longer "its latest place": "The window and stored takes follow the same rule" (point 5). It is the
 -- least of the first j + 1 values, from offset i on, where i is at most j and j is below the take's length. No block is in it
@@ -56,6 +68,11 @@ searchRefusal n m i j = indexRefusal n m (rangeRefusal n i j)
 
 abbrev pub buildRefusal : (n m : ℕ) → ℕ
 buildRefusal n m = indexRefusal n m 0
+
+-- a refusal that is due, by its number; 0: none is
+abbrev pub dueOf : Due → ℕ
+dueOf Due.Nothing = 0
+dueOf (Due.Refused why) = numberOf why
 
 -- THE INDEX AFTER BUILDING, of one that was `before`: "Building writes every index entry"; with 15 it "writes nothing"
 abbrev pub built : (values before : List ℤ) → List ℤ

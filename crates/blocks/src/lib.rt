@@ -5,9 +5,10 @@ ghost use denote.Ref.{ptr};
 ghost use Prim.Native.Nat.{_+_, _*_, _<_, _≤_};
 ghost use lib.ListN.{length, take as front};
 ghost use Rattle.history.specs.Minima.{takesOver};
-ghost use Rattle.blocks.specs.Takes.{minimumFrom, blockOf, blockCount, told};
+ghost use Rattle.blocks.specs.Takes.{minimumFrom, blockOf, blockCount, searchRefusal, leastOf, figure, dueOf, told};
 ghost use Rattle.blocks.specs.Contracts.{Builds, Searches, Stretches};
 ghost use Rattle.blocks.specs.Private.{PlaceOf, lowerOf, OfBlocks, withLeft, withRight, blocksBefore, Covers};
+use history::Due;
 use history::Refusal;
 
 // A place in a take, counted from 0.
@@ -17,6 +18,12 @@ pub struct Offset(pub usize);
 pub struct Found {
     pub value: i32,
     pub place: Offset,
+}
+
+// The least of some values, where there are any.
+pub enum Known {
+    Nothing,
+    Value(i32),
 }
 
 pub enum Reply {
@@ -37,7 +44,7 @@ pub fn reply_number(reply: Reply) -> u8
 }
 
 // How many blocks a take has.
-fn block_count(n: usize) -> usize
+pub fn block_count(n: usize) -> usize
     ensures { λ r. ⌜ r ≡ blockCount n ⌝ }
 {
     if n == 0 {
@@ -80,6 +87,16 @@ fn least_value(values: &[i32]) -> i32
         k += 1;
     }
     least
+}
+
+// The same of any values: of none, nothing.
+pub fn least_of(values: &[i32]) -> Known
+    ensures { λ r. ⌜ figure r ≡ leastOf (now (values .entry)) ⌝ }
+{
+    if values.len() == 0 {
+        return Known::Nothing;
+    }
+    Known::Value(least_value(values))
 }
 
 // The place of the least value, where that is `v`: the first that equals it, since among equal values the earliest counts. If `v` is not
@@ -194,8 +211,7 @@ fn with_right_edge(take: &[i32], a: usize, e: usize, found: Found) -> Found
 }
 
 // How many blocks end at `e` or before it. The last block ends where the take does, though it may be shorter.
-fn blocks_before(n: usize, e: usize) -> usize
-    requires { ⌜ e ≤ n ⌝ }
+pub fn blocks_before(n: usize, e: usize) -> usize
     ensures { λ r. ⌜ r ≡ blocksBefore n e ⌝ }
 {
     if e == n {
@@ -223,6 +239,22 @@ fn least_within(take: &[i32], index: &[i32], i: usize, e: usize) -> Found
     with_right_edge(take, 64 * end, e, from)
 }
 
+// What is due to a search of a take of so many values, with an index of so many entries, from `i` to `j`: 15 for an index of another length, then 14 for a range that the take does not have.
+pub fn due(values: usize, entries: usize, i: usize, j: usize) -> Due
+    ensures { λ r. ⌜ dueOf r ≡ searchRefusal values entries i j ⌝ }
+{
+    if entries != block_count(values) {
+        return Due::Refused(Refusal::OtherIndexLength);
+    }
+    if j < i {
+        return Due::Refused(Refusal::RangeOutOfTake);
+    }
+    if values <= j {
+        return Due::Refused(Refusal::RangeOutOfTake);
+    }
+    Due::Nothing
+}
+
 // Writes the index of a take, an entry for each block. Refused with 15 for an index of another length.
 pub fn build(take: &[i32], index: &mut [i32]) -> Reply
     ensures { λ r. ⌜ Builds (now (take .entry)) (now (index .entry)) (now (index .exit)) r ⌝ }
@@ -239,21 +271,15 @@ pub fn build(take: &[i32], index: &mut [i32]) -> Reply
     Reply::Accepted
 }
 
-// The least value from `i` to `j`, both included, and its place in the take, where the index was built from that take. Refused with 15 for an index of another length, then with 14 for a
-// range that the take does not have.
+// The least value from `i` to `j`, both included, and its place in the take, where the index was built from that take. Refused where a refusal is due.
 pub fn search(take: &[i32], index: &[i32], i: usize, j: usize) -> Reply
     ensures { λ r. ⌜ Searches (now (take .entry)) (now (index .entry)) i j r ⌝ }
 {
-    if index.len() != block_count(take.len()) {
-        return Reply::Refused(Refusal::OtherIndexLength);
+    let refusal = due(take.len(), index.len(), i, j);
+    match refusal {
+        Due::Refused(why) => Reply::Refused(why),
+        Due::Nothing => Reply::Lowest(least_within(take, index, i, j + 1)),
     }
-    if j < i {
-        return Reply::Refused(Refusal::RangeOutOfTake);
-    }
-    if take.len() <= j {
-        return Reply::Refused(Refusal::RangeOutOfTake);
-    }
-    Reply::Lowest(least_within(take, index, i, j + 1))
 }
 
 // The stretch from `i` to `j`, both included, as a part of the caller's own take. It is empty where `i` exceeds `j` or `j` is not below the take's length.

@@ -81,7 +81,7 @@ pub enum Event {
     Other,
 }
 
-// What is due to an event by the standing: a refusal with 7, 8 or 9, or nothing.
+// What is due, to an event by the standing or to a search of a stored take by its lengths: a refusal or nothing.
 pub enum Due {
     Nothing,
     Refused(Refusal),

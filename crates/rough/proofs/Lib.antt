@@ -1,0 +1,4 @@
+pub mod Sequences
+pub mod Orders
+pub mod Leasts
+pub mod Shows
