@@ -82,9 +82,9 @@ module _ (values index : List ℤ) (i j : ℕ) (l : i ≤ j) (h : j < length val
       ap (λ (ws : List Look). filterMap known (take k ws)) entry-parts
       ∙ three known k xs ys zs
       ∙ ap (λ (ws : List ℤ). ws ++ (filterMap known (take (k - length xs) ys) ++ filterMap known (take (k - length xs - length ys) zs)))
-        (none-shown known Entry k first (inner - first) (λ b p q. simp (left-block n i j l h b (omega (arith, q, c)))))
+      (none-shown known Entry k first (inner - first) (λ b p q. simp (left-block n i j l h b (omega (arith, q, c)))))
       ∙ ap (λ (ws : List ℤ). filterMap known (take (k - length xs) ys) ++ ws)
-        (none-shown known Entry (k - length xs - length ys) outer (end - outer) (λ b p q. simp (right-block n i j l h b p (omega (arith, q, c)))))
+      (none-shown known Entry (k - length xs - length ys) outer (end - outer) (λ b p q. simp (right-block n i j l h b p (omega (arith, q, c)))))
       ∙ append-nil (filterMap known (take (k - length xs) ys))
       ∙ all-shown known Entry index (pos 0) (k - length xs) inner (outer - inner) (omega (arith, c, m)) (λ b p q. simp (whole-block n i j l h b p (omega (arith, q, c))))
       ∙ ap (λ (x : ℕ). take (k - x) whole) (length-row Entry first (inner - first))
@@ -147,7 +147,7 @@ module _ (values index : List ℤ) (i j : ℕ) (l : i ≤ j) (h : j < length val
       length-append (entryLooks i j) (valueLooks n i j)
       ∙ ap (λ (x : ℕ). x + length (valueLooks n i j)) (length-entries i j)
       ∙ ap (λ (x : ℕ). end - first + x)
-        (ap length (values-parts n i j l h)
-        ∙ length-append (map Value (upFrom i (from - i))) (map Value (upFrom to (j + 1 - to)))
-        ∙ ap (λ (x : ℕ). x + length (map Value (upFrom to (j + 1 - to)))) (length-row Value i (from - i))
-        ∙ ap (λ (x : ℕ). from - i + x) (length-row Value to (j + 1 - to)))
+      (ap length (values-parts n i j l h)
+      ∙ length-append (map Value (upFrom i (from - i))) (map Value (upFrom to (j + 1 - to)))
+      ∙ ap (λ (x : ℕ). x + length (map Value (upFrom to (j + 1 - to)))) (length-row Value i (from - i))
+      ∙ ap (λ (x : ℕ). from - i + x) (length-row Value to (j + 1 - to)))
