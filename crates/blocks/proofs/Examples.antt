@@ -54,7 +54,7 @@ stretch-gives : (e : Stretch) → stretched e ≡ e → StretchGives Stretched e
 stretch-gives e w at start part q = tied.stretches at (e .values) (e .i) (e .j) start part q .has ∙ ap (λ (x : Stretch). x .part) w
 
 -- each of a list that the definitions work out
-each : {E : Type 0} (worked : E → E) (Gives : E → Type 0) → ((e : E) → worked e ≡ e → Gives e) → (es : List E) → map worked es ≡ es → Each Gives es
+pub each : {E : Type 0} (worked : E → E) (Gives : E → Type 0) → ((e : E) → worked e ≡ e → Gives e) → (es : List E) → map worked es ≡ es → Each Gives es
 each worked Gives g [] w = tt
 each worked Gives g (e ∷ es) w =
     let here : worked e ≡ e = cc in

@@ -37,7 +37,7 @@ every-build values before after r d = record {
 }
 
 -- a range that is outside the take gets 14
-outside-range : (values : List ℤ) (i j : ℕ) → Outside values i j → rangeRefusal (length values) i j ≡ 14
+pub outside-range : (values : List ℤ) (i j : ℕ) → Outside values i j → rangeRefusal (length values) i j ≡ 14
 outside-range values i j (inl l) = exceeds (length values) i j l
 outside-range values i j (inr l) = elim (lt-or-ge j i) [ inl m ↦ exceeds (length values) i j m | inr m ↦ not-below (length values) i j m l ]
 

@@ -22,6 +22,13 @@ leZ-trans (negsuc a) b (pos c) h k = refl
 leZ-trans (negsuc a) (pos b) (negsuc c) h k = clash refl (sym k)
 leZ-trans (negsuc a) (negsuc b) (negsuc c) h k = le-leb c a (omega (arith, leb-true b a h, leb-true c b k))
 
+-- two values of which each is at most the other are equal
+pub leZ-antisym : (a b : ℤ) → leZ a b ≡ true → leZ b a ≡ true → a ≡ b
+leZ-antisym (pos a) (pos b) h k = let e : a ≡ b = omega (arith, leb-true a b h, leb-true b a k) in ap pos e
+leZ-antisym (pos a) (negsuc b) h k = clash refl (sym h)
+leZ-antisym (negsuc a) (pos b) h k = clash refl (sym k)
+leZ-antisym (negsuc a) (negsuc b) h k = let e : a ≡ b = omega (arith, leb-true b a h, leb-true a b k) in ap negsuc e
+
 -- of two values one is at most the other
 pub leZ-total : (a b : ℤ) → leZ a b ≡ false → leZ b a ≡ true
 leZ-total (pos a) (pos b) h = le-leb b a (omega (arith, leb-false a b h))

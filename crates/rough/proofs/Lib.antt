@@ -4,3 +4,8 @@ pub mod Leasts
 pub mod Shows
 pub mod Budgets
 pub mod Readings
+pub mod Bounds
+pub mod Truth
+pub mod Point
+pub mod Tied
+pub mod Examples

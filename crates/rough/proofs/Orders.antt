@@ -10,8 +10,8 @@ use native.Mathlib.Decide.{ℕ-discrete}
 use native.Mathlib.Omega.{arith}
 use lib.Dec.{leb}
 use lib.ListN.{length}
-use borrow.Author.Tests.{le-leb, lt-leb}
-use Rattle.laws.proofs.Tests.{lt-or-ge}
+use borrow.Author.Tests.{leb-true, le-leb, lt-leb}
+use Rattle.laws.proofs.Tests.{clash, lt-or-ge}
 use Rattle.blocks.specs.Takes.{blockCount}
 use Rattle.blocks.specs.Private.{blocksBefore}
 use Rattle.blocks.proofs.Covering.{before-end, before-inside}
@@ -27,6 +27,14 @@ begins-before n i j b l = simp (lt-leb i (64 * b) l)
 
 pub ends-behind : (n i j b : ℕ) → i ≤ 64 * b → j + 1 < min (64 * b + 64) n → whollyInside n i j b ≡ false
 ends-behind n i j b l m = simp (le-leb i (64 * b) l, lt-leb (min (64 * b + 64) n) (j + 1) m)
+
+pub inside-is : (n i j b : ℕ) → whollyInside n i j b ≡ true → (i ≤ 64 * b) × (min (64 * b + 64) n ≤ j + 1)
+inside-is n i j b e = go (leb i (64 * b)) (leb (min (64 * b + 64) n) (j + 1)) refl refl e
+  where
+    go : (s t : Bool) → leb i (64 * b) ≡ s → leb (min (64 * b + 64) n) (j + 1) ≡ t → s && t ≡ true → (i ≤ 64 * b) × (min (64 * b + 64) n ≤ j + 1)
+    go true true p q e = (leb-true i (64 * b) p, leb-true (min (64 * b + 64) n) (j + 1) q)
+    go true false p q e = clash refl (sym e)
+    go false t p q e = clash refl (sym e)
 
 -- the first block that begins in the range or behind it, and the first behind the blocks wholly inside; and where the values of these begin
 abbrev pub innerOf : (i : ℕ) → ℕ

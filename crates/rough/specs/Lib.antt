@@ -1,2 +1,4 @@
 pub mod Looks
+pub mod Promises
+pub mod Examples
 pub mod Private
