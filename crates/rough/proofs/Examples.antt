@@ -1,6 +1,6 @@
 -- The worked examples: the definitions compute to them, and so every call of the function gives them.
 use mathlib.Core.Path.{_≡_, refl, ap, _∙_}
-use mathlib.Core.List.{List, [], _∷_, map, filterMap}
+use mathlib.Core.List.{map, filterMap}
 use mathlib.Core.Option.{Option·elim}
 use Rattle.history.specs.Minima.{lowest}
 use Rattle.blocks.specs.Takes.{blockMinimaFrom}

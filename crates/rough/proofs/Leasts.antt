@@ -1,16 +1,15 @@
 -- The least of two lists, one behind the other, is the lower of both.
-use mathlib.Core.Path.{_≡_, refl, sym, ap, _∙_}
+use mathlib.Core.Path.{_≡_, refl, ap, _∙_}
 use mathlib.Core.Bool.{Bool, true, false, cond}
 use mathlib.Core.List.{List, [], _∷_, _++_, append-nil}
-use mathlib.Core.Option.{Option, none, some}
-use Prim.Native.Nat.{ℕ, suc, _+_}
+use mathlib.Core.Option.{some}
+use Prim.Native.Nat.{_+_}
 use native.Mathlib.Omega.{arith}
 use lib.IntN.{ℤ}
-use lib.ListN.{length}
 use Rattle.history.specs.declared.Position.{Position}
 use Rattle.history.specs.declared.Minimum.{Minimum}
 use Rattle.history.specs.Minima.{takesOver, lower, next, presentAt, minimum}
-use Rattle.history.proofs.Parts.{behind, moved, minimum-behind, minimum-append}
+use Rattle.history.proofs.Parts.{behind, minimum-behind, minimum-append}
 use Rattle.blocks.specs.Takes.{leastOf}
 use Rattle.rough.specs.Private.{lowerOf}
 

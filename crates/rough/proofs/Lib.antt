@@ -6,6 +6,7 @@ pub mod Budgets
 pub mod Readings
 pub mod Bounds
 pub mod Truth
+pub mod Listed
 pub mod Point
 pub mod Tied
 pub mod Examples

@@ -1,21 +1,20 @@
 -- The looks, part by part. The blocks that meet the range are first those before the first that begins in it, then those wholly inside, then those behind; and the range's values are those
 -- before the blocks wholly inside, those in them, and those behind.
 use mathlib.Core.Path.{_≡_, refl, sym, ap, _∙_}
-use mathlib.Core.Bool.{Bool, true, false, cond, _&&_}
-use mathlib.Core.List.{List, [], _++_, map, filterMap, append-nil, filterMap-append}
+use mathlib.Core.Bool.{Bool, true, false, _&&_}
+use mathlib.Core.List.{List, _++_, map, filterMap, filterMap-append}
 use mathlib.Core.Logic.{_⊎_, inl, inr}
-use mathlib.Core.Option.{Option, none, some}
+use mathlib.Core.Option.{none, some}
 use Prim.Native.Nat.{ℕ, _+_, _*_, _-_, _/_, _<_, _≤_, min, max}
 use native.Mathlib.Decide.{ℕ-discrete}
 use native.Mathlib.Omega.{arith}
 use lib.Dec.{leb}
-use lib.ListN.{length}
 use borrow.Author.Tests.{leb-true, le-leb, lt-leb}
 use Rattle.laws.proofs.Tests.{clash, lt-or-ge}
 use Rattle.blocks.specs.Takes.{blockCount}
 use Rattle.blocks.specs.Private.{blocksBefore}
 use Rattle.blocks.proofs.Covering.{before-end, before-inside}
-use Rattle.rough.specs.Looks.{Look, Entry, Value, upFrom, whollyInside, entryLooks, edgeLook, valueLooks, looks}
+use Rattle.rough.specs.Looks.{Look, Value, upFrom, whollyInside, edgeLook, valueLooks, looks}
 use Rattle.rough.proofs.Sequences.{upFrom-parts, none-kept, all-kept}
 
 -- whether a block is wholly inside

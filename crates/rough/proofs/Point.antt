@@ -1,10 +1,10 @@
 -- POINT 6, from the contract.
 use mathlib.Core.Path.{_≡_, refl, sym, ap, _∙_}
-use mathlib.Core.Bool.{Bool, true, false, cond}
+use mathlib.Core.Bool.{true, cond}
 use mathlib.Core.List.{List, [], _∷_, _++_, map, filterMap, filterMap-append}
 use mathlib.Core.Logic.{inl, inr}
 use mathlib.Core.Option.{Option, none, some, Option·elim, Option·some-injective}
-use Prim.Native.Nat.{ℕ, zero, suc, _+_, _*_, _-_, _/_, _<_, _≤_, min}
+use Prim.Native.Nat.{ℕ, _+_, _*_, _-_, _/_, _<_, _≤_, min}
 use native.Mathlib.Omega.{arith}
 use lib.Dec.{eqb, ltb}
 use lib.IntN.{ℤ, pos, negsuc}
@@ -15,20 +15,21 @@ use borrow.Author.Tests.{eq-eqb, ne-eqb, lt-ltb, le-ltb}
 use Rattle.laws.proofs.Tests.{lt-or-ge}
 use Rattle.laws.proofs.Order.{leZ-refl, leZ-trans, leZ-antisym}
 use Rattle.history.proofs.Steps.{some-number}
-use Rattle.blocks.specs.Takes.{rangeMinimum, blockCount, blockMinima, searchRefusal, rangeRefusal, leastOf}
+use Rattle.blocks.specs.Takes.{rangeMinimum, blockCount, blockMinima, searchRefusal, leastOf}
 use Rattle.blocks.specs.Promises.{Fitting, Outside}
 use Rattle.blocks.proofs.Refusals.{in-range}
 use Rattle.blocks.proofs.Indexes.{length-index}
 use Rattle.blocks.proofs.Point.{outside-range}
 use Rattle.rough.specs.declared.Reading.{Reading}
 use Rattle.rough.specs.Looks.{Look, Entry, Value, entryLooks, valueLooks, looks, looksUsed, knownFrom, entryFrom, highAfter, lowAfter, ToldReading, figuresAfter, refusedWith, roughReading, told, whollyInside}
-use Rattle.rough.specs.Promises.{ReadSays, bottom, NoneBelow, readBy, EveryReading, EveryBuilt, EveryBigger, Point6}
-use Rattle.rough.specs.Private.{lowerOf, Shown}
+use Rattle.rough.specs.Promises.{ReadSays, bottom, NoneBelow, readBy, EveryReading, Point6}
+use Rattle.rough.specs.Private.{lowerOf}
 use Rattle.rough.proofs.Leasts.{least-append}
 use Rattle.rough.proofs.Orders.{innerOf, outerOf, leftEnd, rightStart, cuts, edges, whole-block, inside-is}
-use Rattle.rough.proofs.Shows.{whole, left, right, met, length-entries, all-known, all-entries, full-count}
+use Rattle.rough.proofs.Shows.{met, length-entries, all-known, all-entries, full-count}
+use Rattle.rough.proofs.Listed.{every-look}
 use Rattle.rough.proofs.Budgets.{part, length-part}
-use Rattle.rough.proofs.Bounds.{Under, under-append, under-left, under-right, under-take, under-part, part-under, least-under, least-one, under-least, lower-falls, least-exists}
+use Rattle.rough.proofs.Bounds.{Under, under-append, under-left, under-right, under-take, under-part, part-under, least-under, under-least, lower-falls, least-exists}
 use Rattle.rough.proofs.Truth.{true-stands, true-under, entry-stands, entry-under}
 
 -- what is refused, and what is not
@@ -401,6 +402,7 @@ module _ (values index : List ℤ) (i j B : ℕ) (r : Reading) (d : told r ≡ r
 -- of a function of which at least the contract is known
 pub point-6 : (reads : ReadSays) → ((values index : List ℤ) (i j B : ℕ) (r : Reading) → reads values index i j B r → told r ≡ roughReading values index i j B) → Point6 reads
 point-6 reads f = record {
+  looked = every-look;
   reading = λ values index i j B r d. every-reading values index i j B r (f values index i j B r d);
   built = λ values index i j B r d e l h.
       let shown : told r ≡ figuresAfter values (blockMinima values) i j (looksUsed (length values) i j B) =

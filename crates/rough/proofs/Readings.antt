@@ -1,10 +1,10 @@
 -- What all looks together show is the definition's: the cuts are where the definition's list is cut, the least of the parts is the least of what is known, and the tests of the budget are those of the
 -- number of looks used.
-use mathlib.Core.Path.{_≡_, refl, sym, ap, _∙_}
+use mathlib.Core.Path.{_≡_, sym, ap, _∙_}
 use mathlib.Core.Bool.{Bool, cond}
 use mathlib.Core.List.{List, [], _∷_, _++_, filterMap}
-use mathlib.Core.Logic.{inl, inr, ⊎-elim}
-use mathlib.Core.Option.{Option, none, some, Option·none-ne-some}
+use mathlib.Core.Logic.{inl, inr}
+use mathlib.Core.Option.{Option, some, Option·none-ne-some}
 use Prim.Native.Nat.{ℕ, _+_, _*_, _-_, _/_, _<_, _≤_, min, max}
 use native.Mathlib.Omega.{arith}
 use lib.Dec.{ltb}
@@ -20,7 +20,7 @@ use Rattle.rough.specs.declared.Seen.{Seen}
 use Rattle.rough.specs.declared.Entries.{Entries}
 use Rattle.rough.specs.declared.Cuts.{Cuts}
 use Rattle.rough.specs.declared.Reading.{Reading}
-use Rattle.rough.specs.Looks.{Look, entryLooks, looks, looksUsed, knownFrom, entryFrom, highAfter, lowAfter, figuresAfter, told}
+use Rattle.rough.specs.Looks.{Look, entryLooks, looks, looksUsed, entryFrom, highAfter, lowAfter, figuresAfter, told}
 use Rattle.rough.specs.Private.{lowerOf, SeesEntries, SeesValues, Shown, lowBy, CutsAt}
 use Rattle.rough.proofs.Leasts.{least-append}
 use Rattle.rough.proofs.Budgets.{length-part}

@@ -1,14 +1,13 @@
 -- What the looks that are used show: of the entries of blocks wholly inside and of the values at both edges as many as the budget allows, and of all entries as many.
 use mathlib.Core.Path.{_≡_, refl, sym, ap, _∙_}
-use mathlib.Core.Bool.{Bool, true, false, cond}
-use mathlib.Core.List.{List, [], _++_, map, filterMap, append-nil, append-assoc, filterMap-append, map-append}
-use mathlib.Core.Option.{Option, none, some}
-use Prim.Native.Nat.{ℕ, _+_, _*_, _-_, _/_, _<_, _≤_, min}
+use mathlib.Core.List.{List, [], _++_, map, filterMap, append-nil, filterMap-append, map-append}
+use mathlib.Core.Option.{Option, none}
+use Prim.Native.Nat.{ℕ, _+_, _-_, _/_, _<_, _≤_}
 use native.Mathlib.Omega.{arith}
 use lib.IntN.{ℤ, pos}
-use lib.ListN.{length, getD, take, drop, length-append, length-map, length-take, length-drop}
+use lib.ListN.{length, take, drop, length-append, length-map, length-take, length-drop}
 use Rattle.blocks.specs.Takes.{blockCount}
-use Rattle.rough.specs.Looks.{Look, Entry, Value, upFrom, whollyInside, entryLooks, valueLooks, looks, looksUsed, knownFrom, entryFrom}
+use Rattle.rough.specs.Looks.{Look, Entry, Value, upFrom, entryLooks, valueLooks, looks, looksUsed, knownFrom, entryFrom}
 use Rattle.rough.proofs.Sequences.{length-upFrom, upFrom-parts, take-append, none-shown, all-shown}
 use Rattle.rough.proofs.Orders.{innerOf, outerOf, leftEnd, rightStart, cuts, edges, left-block, whole-block, right-block, values-parts}
 

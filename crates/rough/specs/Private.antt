@@ -6,7 +6,7 @@ use mathlib.Core.Option.{Option, none, some}
 use Prim.Native.Nat.{ℕ, _+_, _*_, _-_, _/_, _≤_, min, max}
 use lib.Dec.{ltb}
 use lib.IntN.{ℤ, negsuc}
-use lib.ListN.{length, take, drop}
+use lib.ListN.{take, drop}
 use Rattle.history.specs.Minima.{takesOver}
 use Rattle.blocks.specs.Takes.{leastOf, figure, blockCount}
 use Rattle.blocks.specs.Private.{blocksBefore}

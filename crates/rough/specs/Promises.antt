@@ -2,7 +2,8 @@
 -- proofs/Tied, of the function as it stands in the source.
 use mathlib.Core.Path.{_≡_}
 use mathlib.Core.Bool.{true}
-use mathlib.Core.List.{List, map}
+use mathlib.Core.List.{List, [], _∷_, map}
+use mathlib.Core.Logic.{_⊎_}
 use mathlib.Core.Option.{none, some}
 use Prim.Native.Nat.{ℕ, _+_, _-_, _/_, _<_, _≤_, min}
 use lib.IntN.{ℤ, pos, negsuc}
@@ -28,6 +29,39 @@ NoneBelow values = (k : ℕ) → k < length values → leZ bottom (getD values k
 abbrev pub readBy : (values index : List ℤ) → Look → ℤ
 readBy values index (Entry b) = getD index b (pos 0)
 readBy values index (Value k) = getD values k (pos 0)
+
+-- block b "meets the range": a value of the range stands in it. It is "only partly inside": so does a value of the take outside the range
+abbrev pub Meets : (i j b : ℕ) → Type 0
+Meets i j b = (k : ℕ) × (i ≤ k) × (k ≤ j) × (k / 64 ≡ b)
+
+abbrev pub Partly : (n i j b : ℕ) → Type 0
+Partly n i j b = (k : ℕ) × (k < n) × (k / 64 ≡ b) × ((k < i) ⊎ (j < k))
+
+-- a look is among others; and looks stand in the fixed order, so that none comes twice: entries before values, and either "left to right"
+abbrev pub Among : Look → List Look → Type 0
+Among look [] = ⊥
+Among look (l ∷ ls) = (look ≡ l) ⊎ Among look ls
+
+abbrev pub Before : Look → Look → Type 0
+Before (Entry a) (Entry b) = a < b
+Before (Entry a) (Value k) = Unit {0}
+Before (Value k) (Entry a) = ⊥
+Before (Value k) (Value m) = k < m
+
+abbrev pub InOrder : List Look → Type 0
+InOrder [] = Unit {0}
+InOrder (l ∷ ls) = ((look : Look) → Among look ls → Before l look) × InOrder ls
+
+-- EVERY LOOK, of a range that the take has
+pub record EveryLook (n i j : ℕ) : Type 0 where
+  -- "the index entry of every block that meets the range", and of no other
+  pub entry : (b : ℕ) → Meets i j b → Among (Entry b) (looks n i j)
+  pub onlyMet : (b : ℕ) → Among (Entry b) (looks n i j) → Meets i j b
+  -- "the range's values in blocks only partly inside", and no others
+  pub value : (k : ℕ) → i ≤ k → k ≤ j → Partly n i j (k / 64) → Among (Value k) (looks n i j)
+  pub onlyPartly : (k : ℕ) → Among (Value k) (looks n i j) → (i ≤ k) × (k ≤ j) × Partly n i j (k / 64)
+  -- "The order is fixed"
+  pub order : InOrder (looks n i j)
 
 -- EVERY READING, over any index, built or not
 pub record EveryReading (values index : List ℤ) (i j B : ℕ) (r : Reading) : Type 0 where
@@ -60,6 +94,7 @@ pub record EveryBigger (values index : List ℤ) (r s : Reading) : Type 0 where
 
 -- ALL OF IT, where `reads` is known of the function
 pub record Point6 (reads : ReadSays) : Type 0 where
+  pub looked : (n i j : ℕ) → i ≤ j → j < n → EveryLook n i j
   pub reading : (values index : List ℤ) (i j B : ℕ) (r : Reading) → reads values index i j B r → EveryReading values index i j B r
   pub built : (values index : List ℤ) (i j B : ℕ) (r : Reading) → reads values index i j B r → index ≡ blockMinima values → i ≤ j → j < length values → EveryBuilt values i j B r
   pub bigger : (values index : List ℤ) (i j B C : ℕ) (r s : Reading) → reads values index i j B r → reads values index i j C s → Fitting values index → i ≤ j → j < length values → B ≤ C

@@ -70,7 +70,10 @@ sub-t16 : tie.Need-sub-t16
 sub-t16 c =
     let v = c .before .before .before .before in
     let e = v .before in
-    rest-below (e .before .before .args .budget) _ _ _ _ (v .look-at-values .ensures .rest) (e .look-at-entries .ensures .rest)
+    let k = e .before in
+    let a = k .before .args in
+    rest-below (a .budget) (a .j / 64 + 1 - a .i / 64) (k .cut .result .left - a .i + (a .j + 1 - k .cut .result .right)) (e .look-at-entries .result .rest) (v .look-at-values .result .rest)
+    (v .look-at-values .ensures .rest) (e .look-at-entries .ensures .rest)
 
 sub-low-figure : tie.Need-sub-low-figure
 sub-low-figure c = search needs

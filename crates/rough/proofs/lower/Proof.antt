@@ -7,7 +7,6 @@ use mir.Syntax.{w32}
 use mir.Val.{toZ, ofZ}
 use mir.Facts.{toZ-ofZ}
 use Rattle.history.specs.Minima.{takesOver}
-use Rattle.blocks.specs.Takes.{figure}
 use Rattle.rough.specs.Private.{lowerOf}
 use borrow.Author.Needs.{needs}
 use Rattle.rough.proofs.lower.Statement.{statement}

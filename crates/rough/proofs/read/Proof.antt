@@ -1,10 +1,9 @@
 -- `rough::read` meets its contract, of the refusal that is due and of what the looks show.
 use mathlib.Core.Path.{_≡_, sym, ap, _∙_}
-use Prim.Native.Nat.{_<_, _≤_}
 use lib.ListN.{length}
-use borrow.Author.Tests.{eq-eqb, ne-eqb}
+use borrow.Author.Tests.{ne-eqb}
 use Rattle.history.proofs.Steps.{some-number}
-use Rattle.blocks.specs.Takes.{blockCount, searchRefusal, dueOf}
+use Rattle.blocks.specs.Takes.{searchRefusal, dueOf}
 use Rattle.blocks.proofs.Refusals.{accepted}
 use Rattle.rough.specs.Looks.{refusedWith}
 use borrow.Author.Needs.{needs}
