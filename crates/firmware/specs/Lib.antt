@@ -1,3 +1,4 @@
 pub mod Replies
 pub mod Windows
 pub mod Takes
+pub mod Readings

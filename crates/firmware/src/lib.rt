@@ -3,10 +3,14 @@ ghost use mathlib.Core.Path.{_≡_};
 ghost use Rattle.gain.specs.Gains.{gainOf};
 ghost use Rattle.firmware.specs.Windows.{OpensInNumbers, DoesInNumbers};
 ghost use Rattle.firmware.specs.Takes.{BuildsInNumbers, SearchesInNumbers};
+ghost use Rattle.firmware.specs.Readings.{readingInNumbers};
+ghost use Rattle.rough.specs.Looks.{roughReading};
+use readings::ReadingNumbers;
 use takes::FoundNumbers;
 use windows::WindowNumbers;
 use windows::WindowOutcome;
 
+mod readings;
 mod replies;
 mod takes;
 mod windows;
@@ -49,4 +53,18 @@ pub extern "C" fn filkotar_search(take: &[i32], index: &[i32], i: usize, j: usiz
     ensures { λ r. ⌜ SearchesInNumbers (now (take .entry)) (now (index .entry)) i j r ⌝ }
 {
     takes::found_of(blocks::search(take, index, i, j))
+}
+
+// Document 02, point 6: a rough reading of a take from `i` to `j`, both included, with a budget of looks.
+#[no_mangle]
+pub extern "C" fn filkotar_rough(
+    take: &[i32],
+    index: &[i32],
+    i: usize,
+    j: usize,
+    budget: usize,
+) -> ReadingNumbers
+    ensures { λ r. ⌜ r ≡ readingInNumbers (roughReading (now (take .entry)) (now (index .entry)) i j budget) ⌝ }
+{
+    readings::reading_of(rough::read(take, index, i, j, budget))
 }
