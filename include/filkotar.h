@@ -10,6 +10,7 @@
  *                              bytes of stack    of these below the stack pointer    registers other than the general ones
  *     filkotar_build           48                0                                   xmm0 xmm1 xmm2 xmm3 xmm4
  *     filkotar_gain            488               128                                 xmm0
+ *     filkotar_rough           81                33                                  xmm0 xmm1 xmm2 xmm3 xmm4
  *     filkotar_search          96                48                                  xmm0 xmm1 xmm2 xmm3 xmm4
  *     filkotar_window_open     0                 0                                   none
  *     filkotar_window_value    40                0                                   none
@@ -122,7 +123,8 @@ filkotar_window_answer filkotar_window_value(filkotar_window s, uint64_t *area, 
 /*
  * A stored take: an array of values, take[0] to take[length - 1], that is finished. Beside it stands its index, a second array of yours, which holds the
  * least value of each block of 64: index[0] of take[0] to take[63], index[1] of take[64] to take[127], and so on. The last block may be shorter. You build
- * the index once. With it the least value of any range and its place are found, and of a long range most values are not looked at.
+ * the index once. With it the least value of any range and its place are found, and of a long range most values are not looked at; and a rough reading tells
+ * early about where that value lies.
  *
  *     static int32_t take[1000], index[16];                            16 is (1000 + 63) / 64
  *     if (filkotar_build(take, 1000, index, 16) == 0) {
@@ -133,7 +135,7 @@ filkotar_window_answer filkotar_window_value(filkotar_window s, uint64_t *area, 
  * The index of a take of `length` values has (length + 63) / 64 entries, as C divides; so none where the take is empty. Where that sum could wrap, work it
  * out as length / 64 + (length % 64 != 0), which is the same number and never wraps.
  *
- * In both calls `take` points to `length` values and `index` to `blocks` entries, and nothing else writes these while the call runs. While an index is
+ * In each call `take` points to `length` values and `index` to `blocks` entries, and nothing else writes these while the call runs. While an index is
  * built, take and index do not overlap, and nothing else reads the index. Where `length` is 0, `take` points to none and may be a null pointer; so may
  * `index` where `blocks` is 0. The part of a take from i to j, to be drawn for example, is `take + i`, of j - i + 1 values: C needs no call for it.
  */
@@ -150,7 +152,6 @@ FILKOTAR_SAME(__builtin_offsetof(filkotar_found, number), 0);
 FILKOTAR_SAME(__builtin_offsetof(filkotar_found, value), 4);
 FILKOTAR_SAME(__builtin_offsetof(filkotar_found, place), 8);
 #endif
-#undef FILKOTAR_SAME
 #endif
 
 /*
@@ -180,6 +181,62 @@ uint32_t filkotar_build(const int32_t *take, uint64_t length, int32_t *index, ui
  * above. With 0, place is then one from i to j, but which one, and value, may be any. In no case is the take or the index written.
  */
 filkotar_found filkotar_search(const int32_t *take, uint64_t length, const int32_t *index, uint64_t blocks, uint64_t i, uint64_t j);
+
+/*
+ * A rough reading of a range, where drawing cannot wait for a search: an upper and a lower figure for its least value, after as many looks as you allow.
+ *
+ *     filkotar_reading r = filkotar_rough(take, 1000, index, 16, 100, 699, 10);
+ *     ...                                                              r.low <= the least of take[100] to take[699] and, where r.known is 1, that <= r.high
+ *
+ * A look reads one entry of the index or one value of the take. The looks have a fixed order. First comes the entry of every block that meets the range
+ * from take[i] to take[j], left to right, whether the block is wholly inside the range or only partly; then come the range's values in the blocks that are
+ * only partly inside, left to right. The last block of a take, which may be shorter, is wholly inside where all values that it has are.
+ */
+typedef struct {
+    uint64_t looks;  /* how many looks were used: the budget or, where there are fewer in all, all of them; with another number than 0, 0 */
+    uint32_t number; /* 0, or why the reading was refused */
+    uint32_t known;  /* 1: there is a high figure; 0: there is none */
+    int32_t high;    /* with known 1, the least value that is known to be inside the range; else 0 */
+    int32_t low;     /* with number 0, a figure that the least value of the range is not below; with another number 0 */
+} filkotar_reading;
+
+#ifdef FILKOTAR_SAME
+FILKOTAR_SAME(sizeof(filkotar_reading), 24);
+#ifdef __GNUC__
+FILKOTAR_SAME(__builtin_offsetof(filkotar_reading, looks), 0);
+FILKOTAR_SAME(__builtin_offsetof(filkotar_reading, number), 8);
+FILKOTAR_SAME(__builtin_offsetof(filkotar_reading, known), 12);
+FILKOTAR_SAME(__builtin_offsetof(filkotar_reading, high), 16);
+FILKOTAR_SAME(__builtin_offsetof(filkotar_reading, low), 20);
+#endif
+#undef FILKOTAR_SAME
+#endif
+
+/*
+ * Reads the range from take[i] to take[j], both included, with no more than `budget` looks. The first line that applies:
+ *
+ *     blocks is not (length + 63) / 64          number 15
+ *     i is above j, or j is not below length    number 14
+ *     any other                                 number 0
+ *
+ * With 15 and 14 looks, known, high and low are 0, whatever the budget. i, j and budget may be any numbers, up to UINT64_MAX.
+ *
+ * With 0, whatever the index holds:
+ *
+ *     looks   the smaller of budget and the number of all looks
+ *     high    the least of the entries of blocks wholly inside the range and of the values that were looked at. An entry of a block that is only partly inside
+ *             does not count. Where there is none yet, known is 0
+ *     low     INT32_MIN until all entries are read, then the least of them, and once all looks are used, high. So with a budget of 0 it is INT32_MIN
+ *
+ * The answer rests on the two lengths, on i, j and budget, and on what the looks that were used read, and on nothing else.
+ *
+ * With 0, and with an index that filkotar_build wrote for this take, neither of them altered since: low is never above the least of take[i] to take[j], and
+ * a high figure never below it; once all looks are used both are that value. A bigger budget never gives a lower low, a higher high, or none where there was
+ * one.
+ *
+ * The call stays within the `length` values and the `blocks` entries, and returns. In no case is the take or the index written.
+ */
+filkotar_reading filkotar_rough(const int32_t *take, uint64_t length, const int32_t *index, uint64_t blocks, uint64_t i, uint64_t j, uint64_t budget);
 
 #ifdef __cplusplus
 }

@@ -51,5 +51,16 @@ int main(void)
             printf("%" PRIu64 " to %" PRIu64 ": %" PRIu32 " %" PRId32 " %" PRIu64 "\n", at[n], at[m], f.number, f.value, f.place);
         }
     }
+    /* roughly: with a look for each block that meets the range, and with as many as there are */
+    for (n = 0; n < sizeof at / sizeof at[0]; n += 3) {
+        for (m = 0; m < sizeof at / sizeof at[0]; m++) {
+            uint64_t met = at[m] / 64 + 1 - at[n] / 64;
+            filkotar_reading r = filkotar_rough(take, LENGTH, entries, BLOCKS, at[n], at[m], met);
+            filkotar_reading s = filkotar_rough(take, LENGTH, entries, BLOCKS, at[n], at[m], UINT64_MAX);
+
+            printf("%" PRIu64 " to %" PRIu64 " roughly: %" PRIu64 " %" PRIu32 " %" PRIu32 " %" PRId32 " %" PRId32, at[n], at[m], r.looks, r.number, r.known, r.high, r.low);
+            printf(", %" PRIu64 " %" PRIu32 " %" PRIu32 " %" PRId32 " %" PRId32 "\n", s.looks, s.number, s.known, s.high, s.low);
+        }
+    }
     return 0;
 }

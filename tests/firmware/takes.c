@@ -1,5 +1,5 @@
-/* Stored takes from C: how they are used; then every range of short takes and many of a longer one; refusals; and an index that was not built from the take. tests/takes_c.py works
-   out the same lines. */
+/* Stored takes from C: how they are used; then every range of short takes and many of a longer one; rough readings of these with every budget that matters; refusals; and an index that
+   was not built from the take. tests/takes_c.py works out the same lines. */
 #include "filkotar.h"
 #include "filkotar.h" /* a second time changes nothing */
 
@@ -10,10 +10,16 @@
 /* the types that are declared are those that are promised */
 static uint32_t (*const build)(const int32_t *, uint64_t, int32_t *, uint64_t) = filkotar_build;
 static filkotar_found (*const search)(const int32_t *, uint64_t, const int32_t *, uint64_t, uint64_t, uint64_t) = filkotar_search;
+static filkotar_reading (*const rough)(const int32_t *, uint64_t, const int32_t *, uint64_t, uint64_t, uint64_t, uint64_t) = filkotar_rough;
 
 static void print(filkotar_found f)
 {
     printf("%" PRIu32 " %" PRId32 " %" PRIu64 "\n", f.number, f.value, f.place);
+}
+
+static void print_reading(filkotar_reading r)
+{
+    printf("%" PRIu64 " %" PRIu32 " %" PRIu32 " %" PRId32 " %" PRId32 "\n", r.looks, r.number, r.known, r.high, r.low);
 }
 
 /* HOW A TAKE IS SEARCHED. A take of 1000 values has 16 blocks: 15 of 64 values, and one of the last 40. */
@@ -38,6 +44,11 @@ static void example(void)
     print(search(take, 1000, entries, 16, 130, 140));
     print(search(take, 1000, entries, 16, 7, 7));
     print(search(take, 1000, entries, 16, 0, 1000));
+
+    /* 600 values of it roughly: with 3 looks; with one for each of the ten blocks that they meet; and with as many as there are */
+    print_reading(rough(take, 1000, entries, 16, 100, 699, 3));
+    print_reading(rough(take, 1000, entries, 16, 100, 699, 10));
+    print_reading(rough(take, 1000, entries, 16, 100, 699, UINT64_MAX));
 }
 
 /* THE REST IS TESTS. A take and an index, with words around each that stay as they are. */
@@ -119,6 +130,15 @@ static void add_found(filkotar_found f)
     add(f.place);
 }
 
+static void add_reading(filkotar_reading r)
+{
+    add(r.looks);
+    add(r.number);
+    add(r.known);
+    add((uint32_t)r.high);
+    add((uint32_t)r.low);
+}
+
 /* An index, and every range of a take; of a long take those that begin and end at the first, second or last value of a block. */
 static void ranges(int kind, uint64_t length, int all)
 {
@@ -162,6 +182,53 @@ static void every_range(void)
     ranges(1, LONGEST, 0);
 }
 
+/* Rough readings of the ranges that begin and end beside the ends of blocks, with every budget up to one more than there are looks, and with the largest; over the take's own index, or over
+   one that was not built from it. */
+static void readings(int kind, uint64_t length, int of_index, int own)
+{
+    uint64_t blocks = (length + 63) / 64, count = 0, i, j, budget;
+
+    fill(kind, length, of_index, blocks);
+    if (own) {
+        build(take, length, entries, blocks);
+        memcpy(&copy, &memory, sizeof memory);
+    }
+    begin();
+    for (i = 0; i < length; i++) {
+        for (j = i; j < length; j++) {
+            if ((i + 2) % 64 <= 3 && (j + 2) % 64 <= 3) {
+                for (budget = 0; budget <= blocks + 129; budget++) {
+                    add_reading(rough(take, length, entries, blocks, i, j, budget));
+                    count++;
+                }
+                add_reading(rough(take, length, entries, blocks, i, j, UINT64_MAX));
+                count++;
+            }
+        }
+    }
+    printf("kind %d, %" PRIu64 " values, %s: %" PRIu64 " readings %016" PRIx64 "\n", kind, length, own ? "their index" : "another index", count, sum);
+    kept(0);
+}
+
+static void every_reading(void)
+{
+    static const uint64_t lengths[] = {1, 2, 64, 65, 129, 200};
+    size_t n, budget;
+    int kind;
+
+    fill(3, 200, 5, 4);
+    printf("a take of 0 to 199: %" PRIu32 "\n", build(take, 200, entries, 4));
+    for (budget = 0; budget <= 81; budget++) {
+        print_reading(rough(take, 200, entries, 4, 10, 150, budget));
+    }
+    for (n = 0; n < sizeof lengths / sizeof lengths[0]; n++) {
+        for (kind = 0; kind < KINDS; kind++) {
+            readings(kind, lengths[n], 5 - kind, 1);
+            readings(kind, lengths[n], 5 - kind, 0);
+        }
+    }
+}
+
 /* Ranges that are none, with numbers far above the take's length. The lower 32 bits of some are in the take. */
 static void no_ranges(void)
 {
@@ -178,6 +245,7 @@ static void no_ranges(void)
         for (m = 0; m < sizeof at / sizeof at[0]; m++) {
             printf("%" PRIu64 " to %" PRIu64 ": ", at[n], at[m]);
             print(search(take, 129, entries, 3, at[n], at[m]));
+            print_reading(rough(take, 129, entries, 3, at[n], at[m], at[(n + m) % (sizeof at / sizeof at[0])]));
         }
     }
     kept(0);
@@ -202,6 +270,10 @@ static void other_lengths(void)
             print(search(take, lengths[n], entries, blocks, 0, 0));
             print(search(take, lengths[n], entries, blocks, 1, 0));
             print(search(take, lengths[n], entries, blocks, 0, lengths[n]));
+            print_reading(rough(take, lengths[n], entries, blocks, 0, 0, 0));
+            print_reading(rough(take, lengths[n], entries, blocks, 0, 0, 1));
+            print_reading(rough(take, lengths[n], entries, blocks, 1, 0, 0));
+            print_reading(rough(take, lengths[n], entries, blocks, 0, lengths[n], UINT64_MAX));
             kept(0);
         }
     }
@@ -214,6 +286,10 @@ static void other_lengths(void)
     print(search(NULL, 0, NULL, 0, 0, UINT64_MAX));
     print(search(NULL, 0, entries, 1, 0, 0));
     print(search(take, 1, NULL, 0, 0, 0));
+    print_reading(rough(NULL, 0, NULL, 0, 0, 0, 0));
+    print_reading(rough(NULL, 0, NULL, 0, 0, UINT64_MAX, UINT64_MAX));
+    print_reading(rough(NULL, 0, entries, 1, 0, 0, 1));
+    print_reading(rough(take, 1, NULL, 0, 0, 0, 1));
     kept(0);
 }
 
@@ -250,6 +326,7 @@ int main(void)
 {
     example();
     every_range();
+    every_reading();
     no_ranges();
     other_lengths();
     other_indexes();
