@@ -3,8 +3,7 @@ ghost use mathlib.Core.Path.{_≡_};
 ghost use Rattle.gain.specs.Gains.{gainOf};
 ghost use Rattle.firmware.specs.Windows.{OpensInNumbers, DoesInNumbers};
 ghost use Rattle.firmware.specs.Takes.{BuildsInNumbers, SearchesInNumbers};
-ghost use Rattle.firmware.specs.Readings.{readingInNumbers};
-ghost use Rattle.rough.specs.Looks.{roughReading};
+ghost use Rattle.firmware.specs.Readings.{ReadsInNumbers};
 use readings::ReadingNumbers;
 use takes::FoundNumbers;
 use windows::WindowNumbers;
@@ -64,7 +63,7 @@ pub extern "C" fn filkotar_rough(
     j: usize,
     budget: usize,
 ) -> ReadingNumbers
-    ensures { λ r. ⌜ r ≡ readingInNumbers (roughReading (now (take .entry)) (now (index .entry)) i j budget) ⌝ }
+    ensures { λ r. ⌜ ReadsInNumbers (now (take .entry)) (now (index .entry)) i j budget r ⌝ }
 {
     readings::reading_of(rough::read(take, index, i, j, budget))
 }

@@ -59,7 +59,7 @@ search-asks-nothing : (κs : Lfts 2) (x y : RefT (List ℤ)) (i j : ℕ) → sea
 search-asks-nothing κs x y i j = tt
 
 -- WHAT C IS TOLD: by `filkotar_build` of a take and of an index that was `before` and is `after`; by `filkotar_search` of a take, an index and a range
-abbrev BuildTold : List ℤ → List ℤ → List ℤ → ℕ → Type 0
+abbrev pub BuildTold : List ℤ → List ℤ → List ℤ → ℕ → Type 0
 BuildTold values before after r =
     (κs : Lfts 2) × (x y : RefT (List ℤ)) × build-reads.Learnt κs (at-last x values, (at-last y before, tt)) r (at-last x values, (at-last y after, tt))
 
@@ -89,7 +89,7 @@ module _ (values before after : List ℤ) (r : ℕ) (t : BuildTold values before
       (t .3 .number ∙ ap (λ (x : Told). x .number) (w .0), w .1)
 
   -- so 0 says that the index is the take's
-  built : r ≡ 0 → after ≡ blockMinima values
+  pub built : r ≡ 0 → after ≡ blockMinima values
   built z = elim (ℕ-discrete (length before) (blockCount (length values))) [ yes n ↦ build-0 n .1 | no n ↦ absurd (omega (arith, build-15 n .0)) ]
 
 -- THE LEAST VALUE from take[i] to take[j] is what r shows, at the earliest of its places (points 3 and 5)
