@@ -12,7 +12,7 @@ use lib.ListN.{length, getD}
 use Rattle.blocks.specs.Takes.{rangeMinimum, blockMinima}
 use Rattle.blocks.specs.Promises.{Fitting, Outside}
 use Rattle.rough.specs.declared.Reading.{Reading}
-use Rattle.rough.specs.Looks.{Look, Entry, Value, looks, looksUsed, refusedWith, told}
+use Rattle.rough.specs.Looks.{Look, Entry, Value, looks, looksUsed, told}
 
 -- what is known of `read`: the take, the index, i, j, the budget B and the reading
 abbrev pub ReadSays : Type 1
@@ -66,8 +66,8 @@ pub record EveryLook (n i j : ℕ) : Type 0 where
 -- EVERY READING, over any index, built or not
 pub record EveryReading (values index : List ℤ) (i j B : ℕ) (r : Reading) : Type 0 where
   -- "Replies 14 and 15 hold here too, for B = 0 as well, with 0 looks used and neither figure shown", 15 before 14
-  pub otherIndex : (Fitting values index → ⊥) → told r ≡ refusedWith 15
-  pub outside : Fitting values index → Outside values i j → told r ≡ refusedWith 14
+  pub otherIndex : (Fitting values index → ⊥) → told r ≡ record { number = 15; looks = 0; high = none; low = none }
+  pub outside : Fitting values index → Outside values i j → told r ≡ record { number = 14; looks = 0; high = none; low = none }
   -- and else it is accepted
   pub accepted : Fitting values index → i ≤ j → j < length values → told r .number ≡ 0
   -- "the looks used (the smaller of B and the full count)"

@@ -9,7 +9,7 @@ use Rattle.rough.proofs.low_figure.Statement.{statement}
 use Rattle.rough.proofs.low_figure.Tie as tie
 
 returns : tie.Need-returns
-returns c = let a = c .before .args in simp (lt-ltb (a .budget) (a .entries) (c .if1 .taken))
+returns c = let a = c .before .args in simp (lt-ltb (a .budget) (a .entries) (omega (arith, c .if1 .taken)))
 
 value-of-requires : tie.Need-value-of-requires
 value-of-requires c κs = let b = c .before .before in b .pre .0 (omega (arith, c .before .if1 .left))
@@ -17,7 +17,7 @@ value-of-requires c κs = let b = c .before .before in b .pre .0 (omega (arith, 
 returns-2 : tie.Need-returns-2
 returns-2 c =
     let a = c .before .before .before .args in
-    simp (le-ltb (a .budget) (a .entries) (omega (arith, c .before .before .if1 .left)), lt-ltb (a .budget) (a .full) (c .before .if2 .taken)) (ap some (toZ-ofZ (sfits-of (c .value-of .ok))) ∙ c .value-of .ensures)
+    simp (le-ltb (a .budget) (a .entries) (omega (arith, c .before .before .if1 .left)), lt-ltb (a .budget) (a .full) (omega (arith, c .before .if2 .taken))) (ap some (toZ-ofZ (sfits-of (c .value-of .ok))) ∙ c .value-of .ensures)
 
 value-of-requires-2 : tie.Need-value-of-requires-2
 value-of-requires-2 c κs = let b = c .before .before in b .pre .1 (omega (arith, c .if2 .left))
