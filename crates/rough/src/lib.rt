@@ -12,13 +12,15 @@ use blocks::Known;
 use history::Due;
 use history::Refusal;
 
-// What the looks show: how many were used, the least value that is known to be in the range, if one is, and a value that the least is not below.
+// What the looks show: how many were used; the high figure, the least value that is known to be in the range, if one is; and the low figure, which the least of the range is not below where the
+// index was built from that take.
 pub struct Figures {
     pub looks: usize,
     pub high: Known,
     pub low: i32,
 }
 
+// The answer. A refusal uses no look and shows no figure.
 pub enum Reading {
     Figures(Figures),
     Refused(Refusal),
@@ -129,7 +131,7 @@ fn look_at_values(take: &[i32], i: usize, a: usize, z: usize, e: usize, budget: 
     }
 }
 
-// The value that is known, where one is.
+// The value that is known. It is only asked for where one is.
 fn value_of(known: Known) -> i32
     requires { ⌜ Shown (figure known) ⌝ }
     ensures { λ r. ⌜ some r ≡ figure known ⌝ }
