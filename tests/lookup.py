@@ -2,8 +2,8 @@
 """Long runs of `lookup`, and many short ones, against what tests/takes.py works out: run `python3 tests/lookup.py target/bin/lookup`. The last line is 'N passed, M failed'.
 
 The long takes have up to 8,192 values, falling, rising, constant, with many ties, or at random over the whole range, and as many requests as there is room for: each range inside a block, from
-edge to edge of blocks, and at random. Some requests alter the index. The short ones have every length up to 200, every kind byte and every number of bytes left. The same runs are made each
-time.
+edge to edge of blocks, and at random. Some requests alter the index. Rough readings have budgets around the number of entries and the full count, and larger and smaller ones; in the short
+takes some ranges get every budget. The short ones have every length up to 200, every kind byte and every number of bytes left. The same runs are made each time.
 """
 import random
 import subprocess
@@ -14,7 +14,7 @@ sys.dont_write_bytecode = True
 import takes
 
 LEAST, GREATEST = -2**31, 2**31 - 1
-SEARCH, STRETCH, SET = 1, 2, 4
+SEARCH, STRETCH, ROUGH, SET = 1, 2, 3, 4
 
 
 def numbers(*ns):
@@ -53,14 +53,40 @@ def ends(n, chance):
     return a, b
 
 
+def counts(n, a, b):
+    """How many entries are looked at for a range, and the full count; of a range that is not in n values, none."""
+    if a > b or b >= n:
+        return 0, 0
+    met, edges, _ = takes.looks(n, a, b)
+    return len(met), len(met) + len(edges)
+
+
+def budget(n, a, b, chance):
+    entries, full = counts(n, a, b)
+    return max(0, chance.choice((0, 1, entries - 1, entries, entries + 1, chance.randint(entries, full), full - 1, full, full + 1, 2**32 - 1)))
+
+
+def rough(n, chance):
+    a, b = ends(n, chance)
+    return ROUGH, a, b, budget(n, a, b, chance)
+
+
+def every_budget(n, chance):
+    """Rough readings of one range, with each budget up to one more than is used."""
+    a, b = ends(n, chance)
+    return [(ROUGH, a, b, c) for c in range(counts(n, a, b)[1] + 2)]
+
+
 def requests(n, entries, count, altering, chance):
     """Some requests. Where the index is altered, now and then all of its entries are made −1 or the like, so that it is never the take's for long."""
     for _ in range(count):
         luck = chance.random()
         if altering and luck < 0.2:
             yield SET, chance.randrange(entries + 1), chance.choice((LEAST, GREATEST, -1, 0, chance.randint(-9, 9))), chance.randrange(2**32)
+        elif luck < 0.45:
+            yield rough(n, chance)
         else:
-            yield (SEARCH if luck < 0.7 else STRETCH), *ends(n, chance), chance.randrange(2**32)
+            yield (SEARCH if luck < 0.8 else STRETCH), *ends(n, chance), chance.randrange(2**32)
 
 
 def runs():
@@ -76,8 +102,9 @@ def runs():
         entries = own_entries(n)
         values = [chance.randint(-3, 3) for _ in range(n)]
         every = [(SEARCH, a, n - 1, 0) for a in range(n)] + [(SEARCH, 0, b, 0) for b in range(n)] + [(SEARCH, k, k, 0) for k in range(n)]
-        yield f'{n} values', input_of(values, entries, every + list(requests(n, entries, 100, False, chance)))
-        yield f'{n} values altered', input_of(values, entries, requests(n, entries, 100, True, chance))
+        every += [(ROUGH, a, n - 1, budget(n, a, n - 1, chance)) for a in range(n)] + [(ROUGH, 0, b, budget(n, 0, b, chance)) for b in range(n)]
+        yield f'{n} values', input_of(values, entries, every + every_budget(n, chance) + list(requests(n, entries, 100, False, chance)))
+        yield f'{n} values altered', input_of(values, entries, list(requests(n, entries, 100, True, chance)) + every_budget(n, chance))
         # an index of another length, too
         for other in entries - 1, entries + 1, 256, 257:
             if other >= 0:

@@ -1,10 +1,11 @@
 #!/usr/bin/env python3
-"""Whether an output is one that `lookup` may print for some bytes, worked out by brute force from document 02, points 3 and 5, and the program's description (at the head of
+"""Whether an output is one that `lookup` may print for some bytes, worked out by brute force from document 02, points 3, 5 and 6, and the program's description (at the head of
 crates/listing/specs/Output.antt) alone: run `python3 tests/takes.py BYTES OUTPUT`.
 
-Every search and stretch looks at its range of the take, value by value; blocks are made for the index alone. Nothing here is taken from the crates' code. All that is printed is fixed but for
-the value and place of a search over an index that is not the take's, since entries were altered: there any value of 32 bits, and a place of the range, are right. Run with BYTES alone it writes
-the output that is stored, where such a search shows what docs/DECISIONS.md, 50, says of ours.
+Every search and stretch looks at its range of the take, value by value; blocks are made for the index and for rough readings alone. All looks of a rough reading are listed, and the first so
+many are used. Nothing here is taken from the crates' code. All that is printed is fixed but for the value and place of a search over an index that is not the take's, since entries were
+altered: there any value of 32 bits, and a place of the range, are right. A rough reading is fixed over such an index, too. Run with BYTES alone it writes the output that is stored, where such
+a search shows what docs/DECISIONS.md, 50, says of ours.
 
   python3 tests/takes.py crates/lookup/stdin crates/lookup/stdout
   python3 tests/takes.py crates/lookup/stdin > crates/lookup/stdout
@@ -12,8 +13,9 @@ the output that is stored, where such a search shows what docs/DECISIONS.md, 50,
 tests/lookup.txt has the take and the requests of crates/lookup/stdin; three bytes stand behind them. tests/takes has further runs, each as NAME.bytes and NAME.out, and NAME.txt where
 tools/takes.py can write its bytes: takes of 64, 65, 128 and 129 values, with ranges inside one block, of one value, of exactly one block, across blocks and to the end of the shorter last
 one; ties across blocks and edges; both ends of the values' range; an empty take, alone and beside an index; an index that is too short or too long; entries that were altered; 8,192 values and
-one more; 256 entries and one more; bytes that end at each place up to the first request (header_00 to header_12); the kinds 00, 03 and 05; one to twelve bytes left; the longest lines; and
-more than 65,536 bytes, where the last request is cut off and where the last one ends there. tests/lookup.py makes long runs.
+one more; 256 entries and one more; bytes that end at each place up to the first request (header_00 to header_12); the kinds 00 and 05; one to twelve bytes left; the longest lines; more than
+65,536 bytes, where the last request is cut off and where the last one ends there; and rough readings: of the values 1000 to 1199, over ranges of each sort, with budgets around the number of
+entries and the full count (rough), over altered entries, and refused with 14 and with 15. tests/lookup.py makes long runs.
 """
 import re
 import sys
@@ -23,6 +25,7 @@ MOST_VALUES = 8192
 MOST_ENTRIES = 256
 BLOCK = 64
 REQUEST = 13
+LEAST = -2**31
 
 
 class Shown:
@@ -70,6 +73,32 @@ def outside(values, i, j):
     return i > j or j >= len(values)
 
 
+def looks(n, i, j):
+    """What is looked at, of n values and for the range from i to j, each in its order: "the index entry of every block that meets the range", then "the range's values in blocks only partly
+    inside", by their offsets; and the blocks wholly inside."""
+    offsets = blocks(range(n))
+    met = [b for b, block in enumerate(offsets) if block[0] <= j and i <= block[-1]]
+    inside = [b for b in met if i <= offsets[b][0] and offsets[b][-1] <= j]
+    edges = [k for b in met if b not in inside for k in offsets[b] if i <= k <= j]
+    return met, edges, inside
+
+
+def rough(values, index, i, j, budget):
+    """The looks used of a budget, the high figure, which may be None, and the low one, whatever the index holds."""
+    met, edges, inside = looks(len(values), i, j)
+    # What each look reads, and whether that is a known value inside the range.
+    read = [(index[b], b in inside) for b in met] + [(values[k], True) for k in edges]
+    used = read[:budget]
+    high = min((v for v, known in used if known), default=None)
+    if len(used) < len(met):
+        low = LEAST
+    elif len(used) < len(read):
+        low = min(index[b] for b in met)
+    else:
+        low = high
+    return len(used), high, low
+
+
 def lines(stream):
     """The lines for a stream of bytes: each as a text, or as what it may show."""
     stream = stream[:BYTES_READ]
@@ -91,8 +120,8 @@ def lines(stream):
     yield ' '.join(['index', *map(str, index)])
     read = 0
     at = start
-    while at + REQUEST <= len(stream) and stream[at] in (1, 2, 4):
-        kind, a, b = stream[at], number(at + 1), number(at + 5)
+    while at + REQUEST <= len(stream) and stream[at] in (1, 2, 3, 4):
+        kind, a, b, c = stream[at], number(at + 1), number(at + 5), number(at + 9)
         at += REQUEST
         read += 1
         if kind == 1:
@@ -107,6 +136,14 @@ def lines(stream):
         elif kind == 2:
             part = [] if outside(values, a, b) else values[a:b + 1]
             yield ' '.join(map(str, [read, 'stretch', len(part), *([part[0], part[-1]] if part else [])]))
+        elif kind == 3:
+            if len(index) != len(own):
+                told = 15, 0, None, None
+            elif outside(values, a, b):
+                told = 14, 0, None, None
+            else:
+                told = 0, *rough(values, index, a, b, c)
+            yield ' '.join([str(read), 'rough', *('-' if n is None else str(n) for n in told)])
         else:
             if a < len(index):
                 index[a] = number(at - 8, signed=True)

@@ -7,10 +7,11 @@ Write the input of `lookup` for a take and requests given as text, one item to a
   index 2        the index's length, from 0 to 256; without this line it is the number of blocks of 64 values, the last one perhaps shorter
   search 0 63    the least value from one place to another, each from 0 to 4294967295; places are numbered from 0
   stretch 0 63   the values from one place to another
+  rough 0 63 9   a rough reading from one place to another, with a budget of looks from 0 to 4294967295
   set 1 -12      make an entry of the index another value
 
 First come the values, then the index's length, then the requests, and all of them are 65536 bytes at most. FILE is - for standard input. Numbers are whole decimal numbers; they become four
-bytes each, least significant first, and a request has a kind byte before its two numbers and four zero bytes behind them. Blank lines and lines that start with # are skipped.
+bytes each, least significant first. A request has a kind byte before its numbers and, where they are two, four zero bytes behind them. Blank lines and lines that start with # are skipped.
 
 Where a line is bad nothing is written: its number and what is wrong with it go to standard error, and the exit status is 1. It is 2 where the file cannot be read.
 """
@@ -32,6 +33,7 @@ MOST_BYTES = 65536
 REQUESTS = {
     'search': (1, NUMBER, NUMBER),
     'stretch': (2, NUMBER, NUMBER),
+    'rough': (3, NUMBER, NUMBER, NUMBER),
     'set': (4, NUMBER, VALUE),
 }
 
@@ -82,11 +84,11 @@ class Take:
     def request(self, name, words):
         kind, *bounds = REQUESTS[name]
         if len(words) != len(bounds):
-            raise BadLine(f'{name} takes two numbers')
+            raise BadLine(f'{name} takes {"two" if len(bounds) == 2 else "three"} numbers')
         numbers = [number(word, *bound) for word, bound in zip(words, bounds)]
         if self.length() + 13 > MOST_BYTES:
             raise TooMuch(f'there are more than {MOST_BYTES} bytes')
-        self.requests.append(bytes([kind]) + b''.join(map(four_bytes, [*numbers, 0])))
+        self.requests.append(bytes([kind]) + b''.join(map(four_bytes, [*numbers, 0][:3])))
 
     def line(self, line):
         words = line.decode('utf-8', errors='replace').split()
@@ -99,7 +101,7 @@ class Take:
         elif len(words) == 1:
             self.value(words[0])
         else:
-            raise BadLine(f'unknown item {words[0]!r}: it is a value alone, or index, search, stretch or set')
+            raise BadLine(f'unknown item {words[0]!r}: it is a value alone, or index, search, stretch, rough or set')
 
 
 def read(lines, errors):

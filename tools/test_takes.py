@@ -13,6 +13,7 @@ SEARCH = '01 00000000 00000000 00000000'
 CASES = [
     (b'5\n-3\nindex 1\nsearch 0 1\nstretch 1 1\nset 0 -9\n',
      '02000000 05000000 fdffffff 01000000 01 00000000 01000000 00000000 02 01000000 01000000 00000000 04 00000000 f7ffffff 00000000', 0, []),
+    (b'5\n-3\nrough 0 1 3\nrough 1 1 0\n', '02000000 05000000 fdffffff 01000000 03 00000000 01000000 03000000 03 01000000 01000000 00000000', 0, []),
     # no lines, no requests, no values, and a last line without an end
     (b'', '00000000 00000000', 0, []),
     (b'7', '01000000 07000000 01000000', 0, []),
@@ -29,6 +30,9 @@ CASES = [
     (b'index 0\nsearch 4294967295 0\n', '00000000 00000000 01 ffffffff 00000000 00000000', 0, []),
     (b'search -1 0\nsearch 0 4294967296\nstretch 4294967296 0\nset -1 0\n', '', 1,
      ['line 1: -1 is out of range', 'line 2: 4294967296 is out of range', 'line 3: 4294967296 is out of range', 'line 4: -1 is out of range']),
+    (b'rough 4294967295 4294967295 4294967295\n', '00000000 00000000 03 ffffffff ffffffff ffffffff', 0, []),
+    (b'rough -1 0 0\nrough 0 4294967296 0\nrough 0 0 -1\nrough 0 0 4294967296\n', '', 1,
+     ['line 1: -1 is out of range', 'line 2: 4294967296 is out of range', 'line 3: -1 is out of range', 'line 4: 4294967296 is out of range']),
     (b'set 4294967295 -2147483648\n', '00000000 00000000 04 ffffffff 00000080 00000000', 0, []),
     (b'set 0 2147483648\nset 0 -2147483649\n', '', 1, ['line 1: 2147483648 is out of range', 'line 2: -2147483649 is out of range']),
     (b'index 256\n', '00000000 00010000', 0, []),
@@ -43,6 +47,8 @@ CASES = [
     # one bad line is enough, and nothing is written; each bad line has a message
     (b'1\nx\n2\n', '', 1, ["line 2: 'x' is not a whole number"]),
     (b'1 2\nlook 0 0\nSearch 0 0\n', '', 1, ["line 1: unknown item '1'", "line 2: unknown item 'look'", "line 3: unknown item 'Search'"]),
+    (b'rough\nrough 1\nrough 1 2\nrough 1 2 3 4\nrough 1 2 x\n', '', 1,
+     ['line 1: rough takes three numbers', 'line 2: rough takes three numbers', 'line 3: rough takes three numbers', 'line 4: rough takes three numbers', "line 5: 'x' is not a whole number"]),
     (b'index\nindex 1 2\nsearch\nsearch 1\nsearch 1 2 3\nstretch 1\nset 1\nset 1 2 3\n', '', 1,
      ['line 1: index takes one number', 'line 2: index takes one number', 'line 3: search takes two numbers', 'line 4: search takes two numbers', 'line 5: search takes two numbers',
       'line 6: stretch takes two numbers', 'line 7: set takes two numbers', 'line 8: set takes two numbers']),

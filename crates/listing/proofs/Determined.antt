@@ -13,7 +13,7 @@ use Rattle.blocks.specs.Takes.{Told, rangeMinimum, blockCount, blockMinima, sea
 use Rattle.blocks.specs.Contracts.{Choice}
 use Rattle.text.specs.Stops.{stopLines}
 use Rattle.listing.specs.declared.Request.{Request}
-use Rattle.listing.specs.declared.Request.the-variants.{Search, Stretch, Set}
+use Rattle.listing.specs.declared.Request.the-variants.{Search, Stretch, Rough, Set}
 use Rattle.listing.specs.Lines.{noTakeLine, buildLine, indexLine, searchLine, endLine}
 use Rattle.listing.specs.Input.{takeOf, noTake, requestsOf, endOf, leftOf}
 use Rattle.listing.specs.Output.{filledOf, builtOf, requestLine, requestLines, readOf}
@@ -53,6 +53,8 @@ lines-determined values index n (Search i j ∷ rs) (f ∷ fs) s u a =
     ∙ ap (λ (x : List ℕ). requestLine values index n (Search i j) (rangeMinimum values i j) ++ x) (lines-determined values index (n + 1) rs fs s u (a .1))
 lines-determined values index n (Stretch i j ∷ rs) (f ∷ fs) s u a =
     ap (λ (x : List ℕ). requestLine values index n (Stretch i j) f ++ x) (lines-determined values index (n + 1) rs fs s u (a .1))
+lines-determined values index n (Rough i j budget ∷ rs) (f ∷ fs) s u a =
+    ap (λ (x : List ℕ). requestLine values index n (Rough i j budget) f ++ x) (lines-determined values index (n + 1) rs fs s u (a .1))
 lines-determined values index n (Set e v ∷ rs) (f ∷ fs) s u a = absurd u
 
 -- THERE IS NO CHOICE WITHOUT A `set`

@@ -1,12 +1,13 @@
 -- The examples are right: the whole output computes to them. Over the altered index of the last one, either choice may be printed.
 use mathlib.Core.Path.{_≡_, refl}
-use mathlib.Core.List.{List, [], _∷_}
+use mathlib.Core.List.{List, [], _∷_, filterMap}
 use Prim.Native.Nat.{ℕ, _≤_}
 use native.Mathlib.Omega.{arith}
 use lib.IntN.{ℤ, pos, negsuc}
 use lib.ListN.{length}
 use Rattle.history.specs.Minima.{lowest}
 use Rattle.blocks.specs.Takes.{blockMinimaFrom}
+use Rattle.rough.specs.Looks.{upFrom}
 use Rattle.numbers.specs.FourBytes.{valuesFrom}
 use Rattle.text.specs.Writing.{digitsWithin}
 use Rattle.text.specs.Examples.{AllPrinted}
@@ -17,11 +18,11 @@ use Rattle.listing.specs.Examples.{examples, altered, alteredOutput}
 
 -- THE EXAMPLES, all of the list
 pub examples-printed : AllPrinted exactOutput examples
-unfolding digitsWithin lowest blockMinimaFrom valuesFrom requestsFrom
+unfolding digitsWithin lowest blockMinimaFrom upFrom filterMap valuesFrom requestsFrom
 examples-printed = refl
 
 -- none is missing
-examples-count : length examples ≡ 15
+examples-count : length examples ≡ 17
 examples-count = refl
 
 -- THE CHOICE IS OPEN over an altered index: 9 at 0, 7 at 1, and -3 at 1

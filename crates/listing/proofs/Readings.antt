@@ -37,6 +37,6 @@ pub cut-off : (bytes : List ℕ) (at : ℕ) → length bytes < at + 13 → reque
 cut-off bytes at l = rw (lt-ltb (length bytes) (at + 13) l)
 
 -- where as many are left, its kind and its numbers say which
-pub by-kind : (bytes : List ℕ) (at kind a b : ℕ) → at + 13 ≤ length bytes → getD bytes at 0 ≡ kind → a ≡ numberAt bytes (at + 1) → b ≡ numberAt bytes (at + 5)
-    → requestAt bytes at ≡ requestOf kind a b
-by-kind bytes at kind a b l k e f = rw (le-ltb (length bytes) (at + 13) l, k, e, f)
+pub by-kind : (bytes : List ℕ) (at kind a b c : ℕ) → at + 13 ≤ length bytes → getD bytes at 0 ≡ kind → a ≡ numberAt bytes (at + 1) → b ≡ numberAt bytes (at + 5)
+    → c ≡ numberAt bytes (at + 9) → requestAt bytes at ≡ requestOf kind a b c
+by-kind bytes at kind a b c l k e f g = rw (le-ltb (length bytes) (at + 13) l, k, e, f, g)

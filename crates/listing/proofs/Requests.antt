@@ -13,11 +13,12 @@ use Rattle.blocks.specs.declared.Found.{Found}
 use Rattle.blocks.specs.declared.Reply.{Reply}
 use Rattle.blocks.specs.Takes.{stretchOf, told}
 use Rattle.blocks.specs.Contracts.{Searches}
+use Rattle.rough.specs.Looks.{ToldReading, roughReading}
 use Rattle.text.specs.Writing.{Adds}
 use Rattle.text.proofs.Texts.{nothing, then}
 use Rattle.listing.specs.declared.Request.{Request}
-use Rattle.listing.specs.declared.Request.the-variants.{Search, Stretch, Set}
-use Rattle.listing.specs.Lines.{searchLine, stretchLine, setLine}
+use Rattle.listing.specs.declared.Request.the-variants.{Search, Stretch, Rough, Set}
+use Rattle.listing.specs.Lines.{searchLine, stretchLine, roughLine, setLine}
 use Rattle.listing.specs.Input.{requestAt, requestsFrom, requestsBehind}
 use Rattle.listing.specs.Output.{indexAfter, requestLine, requestLines}
 use Rattle.listing.specs.Choices.{unused, Allowed, AllAllowed}
@@ -33,6 +34,11 @@ searched {n = n} e s a l = rw e (record { found = s .shows; allowed = s .choice;
 pub stretched : {values index part : List ℤ} {n i j used r : ℕ} {request : Request} {out written : List ℕ} → request ≡ Stretch i j → part ≡ stretchOf values i j
     → Adds out used (stretchLine n part) written r → r ≤ used + 59 → Performs values index index n request out used written r
 stretched {n = n} e s a l = rw e (record { found = unused; allowed = tt; alters = refl; prints = rw (ap (stretchLine n) s) at a; fits = omega arith })
+
+-- a rough reading, of which nothing is found either
+pub looked : {values index : List ℤ} {n i j budget used r : ℕ} {request : Request} {t : ToldReading} {out written : List ℕ} → request ≡ Rough i j budget
+    → t ≡ roughReading values index i j budget → Adds out used (roughLine n t) written r → r ≤ used + 59 → Performs values index index n request out used written r
+looked {n = n} e s a l = rw e (record { found = unused; allowed = tt; alters = refl; prints = rw (ap (roughLine n) s) at a; fits = omega arith })
 
 -- another entry
 pub entered : {values index after : List ℤ} {n a used r : ℕ} {v : ℤ} {request : Request} {out written : List ℕ} → request ≡ Set a v → after ≡ set index a v
@@ -103,6 +109,7 @@ reads-more bytes rs start (suc more) at {r} l inside e f = (
 index-length : (index : List ℤ) (r : Request) → length (indexAfter index r) ≡ length index
 index-length index (Search i j) = refl
 index-length index (Stretch i j) = refl
+index-length index (Rough i j budget) = refl
 index-length index (Set a v) = length-set index a v
 
 -- what holds at an offset, of a following from the offset `start` and the index `before`, with `first` bytes of `out` written before it

@@ -1,5 +1,5 @@
--- Worked examples: searches and stretches over small takes and over one of two blocks, each refusal, altered entries, and each way in which the requests end or there is no take. Each number of
--- four bytes is a line here, and so is a request and a line of the output. That the whole output computes to them, where each search finds the least of its range, is the theorem
+-- Worked examples: searches, stretches and rough readings over small takes and over one of two blocks, each refusal, altered entries, and each way in which the requests end or there is no take.
+-- Each number of four bytes is a line here, and so is a request and a line of the output. That the whole output computes to them, where each search finds the least of its range, is the theorem
 -- `examples-printed` of proofs/Examples; by `Determined` it is what is printed wherever there is no `set`.
 use mathlib.Core.List.{List, [], _∷_, _++_}
 use Prim.Native.Nat.{ℕ, zero, suc}
@@ -34,7 +34,8 @@ examples =
           ∷ 101 ∷ 110 ∷ 100 ∷ 32 ∷ 51 ∷ 10
           ∷ [];
     }
-    -- both ends of the values' range, one value, and c, which is not used: build 0, index -2147483648, 1 search 0 -2147483648 0, 2 search 0 2147483647 1, 3 stretch 1 2147483647 2147483647, end 3
+    -- both ends of the values' range, one value, and c, which a search does not use: build 0, index -2147483648, 1 search 0 -2147483648 0, 2 search 0 2147483647 1,
+    -- 3 stretch 1 2147483647 2147483647, end 3
     ∷ record {
       bytes =
           2 ∷ 0 ∷ 0 ∷ 0
@@ -54,8 +55,8 @@ examples =
           ∷ 101 ∷ 110 ∷ 100 ∷ 32 ∷ 51 ∷ 10
           ∷ [];
     }
-    -- 65 equal values, which are two blocks: all of them, exactly the first block, the shorter last one, and a stretch across: build 0, index 7 7, 1 search 0 7 0, 2 search 0 7 0,
-    -- 3 search 0 7 64, 4 stretch 2 7 7, end 4
+    -- 65 equal values, which are two blocks: all of them, exactly the first block, the shorter last one, a stretch across, and rough readings of all but the first value, by one of the two
+    -- entries and by both: build 0, index 7 7, 1 search 0 7 0, 2 search 0 7 0, 3 search 0 7 64, 4 stretch 2 7 7, 5 rough 0 1 - -2147483648, 6 rough 0 2 7 7, end 6
     ∷ record {
       bytes =
           65 ∷ 0 ∷ 0 ∷ 0
@@ -65,6 +66,8 @@ examples =
           ∷ 1 ∷ 0 ∷ 0 ∷ 0 ∷ 0 ∷ 63 ∷ 0 ∷ 0 ∷ 0 ∷ 0 ∷ 0 ∷ 0 ∷ 0
           ∷ 1 ∷ 64 ∷ 0 ∷ 0 ∷ 0 ∷ 64 ∷ 0 ∷ 0 ∷ 0 ∷ 0 ∷ 0 ∷ 0 ∷ 0
           ∷ 2 ∷ 63 ∷ 0 ∷ 0 ∷ 0 ∷ 64 ∷ 0 ∷ 0 ∷ 0 ∷ 0 ∷ 0 ∷ 0 ∷ 0
+          ∷ 3 ∷ 1 ∷ 0 ∷ 0 ∷ 0 ∷ 64 ∷ 0 ∷ 0 ∷ 0 ∷ 1 ∷ 0 ∷ 0 ∷ 0
+          ∷ 3 ∷ 1 ∷ 0 ∷ 0 ∷ 0 ∷ 64 ∷ 0 ∷ 0 ∷ 0 ∷ 2 ∷ 0 ∷ 0 ∷ 0
           ∷ [];
       output =
           98 ∷ 117 ∷ 105 ∷ 108 ∷ 100 ∷ 32 ∷ 48 ∷ 10
@@ -73,7 +76,9 @@ examples =
           ∷ 50 ∷ 32 ∷ 115 ∷ 101 ∷ 97 ∷ 114 ∷ 99 ∷ 104 ∷ 32 ∷ 48 ∷ 32 ∷ 55 ∷ 32 ∷ 48 ∷ 10
           ∷ 51 ∷ 32 ∷ 115 ∷ 101 ∷ 97 ∷ 114 ∷ 99 ∷ 104 ∷ 32 ∷ 48 ∷ 32 ∷ 55 ∷ 32 ∷ 54 ∷ 52 ∷ 10
           ∷ 52 ∷ 32 ∷ 115 ∷ 116 ∷ 114 ∷ 101 ∷ 116 ∷ 99 ∷ 104 ∷ 32 ∷ 50 ∷ 32 ∷ 55 ∷ 32 ∷ 55 ∷ 10
-          ∷ 101 ∷ 110 ∷ 100 ∷ 32 ∷ 52 ∷ 10
+          ∷ 53 ∷ 32 ∷ 114 ∷ 111 ∷ 117 ∷ 103 ∷ 104 ∷ 32 ∷ 48 ∷ 32 ∷ 49 ∷ 32 ∷ 45 ∷ 32 ∷ 45 ∷ 50 ∷ 49 ∷ 52 ∷ 55 ∷ 52 ∷ 56 ∷ 51 ∷ 54 ∷ 52 ∷ 56 ∷ 10
+          ∷ 54 ∷ 32 ∷ 114 ∷ 111 ∷ 117 ∷ 103 ∷ 104 ∷ 32 ∷ 48 ∷ 32 ∷ 50 ∷ 32 ∷ 55 ∷ 32 ∷ 55 ∷ 10
+          ∷ 101 ∷ 110 ∷ 100 ∷ 32 ∷ 54 ∷ 10
           ∷ [];
     }
     -- an i above j, and a j that the take does not have: build 0, index 4, 1 search 14, 2 search 14, 3 stretch 0, 4 stretch 0, end 4
@@ -174,6 +179,55 @@ examples =
           ∷ 101 ∷ 110 ∷ 100 ∷ 32 ∷ 53 ∷ 10
           ∷ [];
     }
+    -- rough readings: of the first two of three values, with a budget of 0, of 1, which is the entry alone, of 2, and of more than there are looks; of all three; of a range that there is not; and
+    -- over an altered entry: build 0, index -3, 1 rough 0 0 - -2147483648, 2 rough 0 1 - -3, 3 rough 0 2 5 -3, 4 rough 0 3 -3 -3, 5 rough 0 1 -3 -3, 6 rough 14 0 - -, 7 set, 8 rough 0 1 - 9, end 8
+    ∷ record {
+      bytes =
+          3 ∷ 0 ∷ 0 ∷ 0
+          ∷ 5 ∷ 0 ∷ 0 ∷ 0
+          ∷ 253 ∷ 255 ∷ 255 ∷ 255
+          ∷ 7 ∷ 0 ∷ 0 ∷ 0
+          ∷ 1 ∷ 0 ∷ 0 ∷ 0
+          ∷ 3 ∷ 0 ∷ 0 ∷ 0 ∷ 0 ∷ 1 ∷ 0 ∷ 0 ∷ 0 ∷ 0 ∷ 0 ∷ 0 ∷ 0
+          ∷ 3 ∷ 0 ∷ 0 ∷ 0 ∷ 0 ∷ 1 ∷ 0 ∷ 0 ∷ 0 ∷ 1 ∷ 0 ∷ 0 ∷ 0
+          ∷ 3 ∷ 0 ∷ 0 ∷ 0 ∷ 0 ∷ 1 ∷ 0 ∷ 0 ∷ 0 ∷ 2 ∷ 0 ∷ 0 ∷ 0
+          ∷ 3 ∷ 0 ∷ 0 ∷ 0 ∷ 0 ∷ 1 ∷ 0 ∷ 0 ∷ 0 ∷ 255 ∷ 255 ∷ 255 ∷ 255
+          ∷ 3 ∷ 0 ∷ 0 ∷ 0 ∷ 0 ∷ 2 ∷ 0 ∷ 0 ∷ 0 ∷ 1 ∷ 0 ∷ 0 ∷ 0
+          ∷ 3 ∷ 1 ∷ 0 ∷ 0 ∷ 0 ∷ 0 ∷ 0 ∷ 0 ∷ 0 ∷ 0 ∷ 0 ∷ 0 ∷ 0
+          ∷ 4 ∷ 0 ∷ 0 ∷ 0 ∷ 0 ∷ 9 ∷ 0 ∷ 0 ∷ 0 ∷ 0 ∷ 0 ∷ 0 ∷ 0
+          ∷ 3 ∷ 0 ∷ 0 ∷ 0 ∷ 0 ∷ 1 ∷ 0 ∷ 0 ∷ 0 ∷ 1 ∷ 0 ∷ 0 ∷ 0
+          ∷ [];
+      output =
+          98 ∷ 117 ∷ 105 ∷ 108 ∷ 100 ∷ 32 ∷ 48 ∷ 10
+          ∷ 105 ∷ 110 ∷ 100 ∷ 101 ∷ 120 ∷ 32 ∷ 45 ∷ 51 ∷ 10
+          ∷ 49 ∷ 32 ∷ 114 ∷ 111 ∷ 117 ∷ 103 ∷ 104 ∷ 32 ∷ 48 ∷ 32 ∷ 48 ∷ 32 ∷ 45 ∷ 32 ∷ 45 ∷ 50 ∷ 49 ∷ 52 ∷ 55 ∷ 52 ∷ 56 ∷ 51 ∷ 54 ∷ 52 ∷ 56 ∷ 10
+          ∷ 50 ∷ 32 ∷ 114 ∷ 111 ∷ 117 ∷ 103 ∷ 104 ∷ 32 ∷ 48 ∷ 32 ∷ 49 ∷ 32 ∷ 45 ∷ 32 ∷ 45 ∷ 51 ∷ 10
+          ∷ 51 ∷ 32 ∷ 114 ∷ 111 ∷ 117 ∷ 103 ∷ 104 ∷ 32 ∷ 48 ∷ 32 ∷ 50 ∷ 32 ∷ 53 ∷ 32 ∷ 45 ∷ 51 ∷ 10
+          ∷ 52 ∷ 32 ∷ 114 ∷ 111 ∷ 117 ∷ 103 ∷ 104 ∷ 32 ∷ 48 ∷ 32 ∷ 51 ∷ 32 ∷ 45 ∷ 51 ∷ 32 ∷ 45 ∷ 51 ∷ 10
+          ∷ 53 ∷ 32 ∷ 114 ∷ 111 ∷ 117 ∷ 103 ∷ 104 ∷ 32 ∷ 48 ∷ 32 ∷ 49 ∷ 32 ∷ 45 ∷ 51 ∷ 32 ∷ 45 ∷ 51 ∷ 10
+          ∷ 54 ∷ 32 ∷ 114 ∷ 111 ∷ 117 ∷ 103 ∷ 104 ∷ 32 ∷ 49 ∷ 52 ∷ 32 ∷ 48 ∷ 32 ∷ 45 ∷ 32 ∷ 45 ∷ 10
+          ∷ 55 ∷ 32 ∷ 115 ∷ 101 ∷ 116 ∷ 10
+          ∷ 56 ∷ 32 ∷ 114 ∷ 111 ∷ 117 ∷ 103 ∷ 104 ∷ 32 ∷ 48 ∷ 32 ∷ 49 ∷ 32 ∷ 45 ∷ 32 ∷ 57 ∷ 10
+          ∷ 101 ∷ 110 ∷ 100 ∷ 32 ∷ 56 ∷ 10
+          ∷ [];
+    }
+    -- rough readings beside an index that is too long, for a range that there is and for one that there is not: build 15, index -1 -1 -1, 1 rough 15 0 - -, 2 rough 15 0 - -, end 2
+    ∷ record {
+      bytes =
+          1 ∷ 0 ∷ 0 ∷ 0
+          ∷ 4 ∷ 0 ∷ 0 ∷ 0
+          ∷ 3 ∷ 0 ∷ 0 ∷ 0
+          ∷ 3 ∷ 0 ∷ 0 ∷ 0 ∷ 0 ∷ 0 ∷ 0 ∷ 0 ∷ 0 ∷ 0 ∷ 0 ∷ 0 ∷ 0
+          ∷ 3 ∷ 1 ∷ 0 ∷ 0 ∷ 0 ∷ 0 ∷ 0 ∷ 0 ∷ 0 ∷ 9 ∷ 0 ∷ 0 ∷ 0
+          ∷ [];
+      output =
+          98 ∷ 117 ∷ 105 ∷ 108 ∷ 100 ∷ 32 ∷ 49 ∷ 53 ∷ 10
+          ∷ 105 ∷ 110 ∷ 100 ∷ 101 ∷ 120 ∷ 32 ∷ 45 ∷ 49 ∷ 32 ∷ 45 ∷ 49 ∷ 32 ∷ 45 ∷ 49 ∷ 10
+          ∷ 49 ∷ 32 ∷ 114 ∷ 111 ∷ 117 ∷ 103 ∷ 104 ∷ 32 ∷ 49 ∷ 53 ∷ 32 ∷ 48 ∷ 32 ∷ 45 ∷ 32 ∷ 45 ∷ 10
+          ∷ 50 ∷ 32 ∷ 114 ∷ 111 ∷ 117 ∷ 103 ∷ 104 ∷ 32 ∷ 49 ∷ 53 ∷ 32 ∷ 48 ∷ 32 ∷ 45 ∷ 32 ∷ 45 ∷ 10
+          ∷ 101 ∷ 110 ∷ 100 ∷ 32 ∷ 50 ∷ 10
+          ∷ [];
+    }
     -- a take without requests: build 0, index 6, end 0
     ∷ record {
       bytes =
@@ -187,14 +241,14 @@ examples =
           ∷ 101 ∷ 110 ∷ 100 ∷ 32 ∷ 48 ∷ 10
           ∷ [];
     }
-    -- the unknown kind 03, behind which nothing is read: build 0, index 6, 1 search 0 6 0, stop 25, end 1
+    -- the unknown kind 05, behind which nothing is read: build 0, index 6, 1 search 0 6 0, stop 25, end 1
     ∷ record {
       bytes =
           1 ∷ 0 ∷ 0 ∷ 0
           ∷ 6 ∷ 0 ∷ 0 ∷ 0
           ∷ 1 ∷ 0 ∷ 0 ∷ 0
           ∷ 1 ∷ 0 ∷ 0 ∷ 0 ∷ 0 ∷ 0 ∷ 0 ∷ 0 ∷ 0 ∷ 0 ∷ 0 ∷ 0 ∷ 0
-          ∷ 3 ∷ 0 ∷ 0 ∷ 0 ∷ 0 ∷ 0 ∷ 0 ∷ 0 ∷ 0 ∷ 0 ∷ 0 ∷ 0 ∷ 0
+          ∷ 5 ∷ 0 ∷ 0 ∷ 0 ∷ 0 ∷ 0 ∷ 0 ∷ 0 ∷ 0 ∷ 0 ∷ 0 ∷ 0 ∷ 0
           ∷ 1 ∷ 0 ∷ 0 ∷ 0 ∷ 0 ∷ 0 ∷ 0 ∷ 0 ∷ 0 ∷ 0 ∷ 0 ∷ 0 ∷ 0
           ∷ [];
       output =

@@ -9,7 +9,7 @@ use lib.ListN.{length, getD}
 use Rattle.signed.specs.TwosComplement.{signedOf}
 use Rattle.numbers.specs.FourBytes.{numberAt, valuesFrom}
 use Rattle.listing.specs.declared.Request.{Request}
-use Rattle.listing.specs.declared.Request.the-variants.{Search, Stretch, Set}
+use Rattle.listing.specs.declared.Request.the-variants.{Search, Stretch, Rough, Set}
 
 -- "n (unsigned), then n values (two's complement)"
 abbrev pub countOf : List ℕ → ℕ
@@ -30,18 +30,21 @@ startOf bytes = 8 + 4 * countOf bytes
 abbrev pub noTake : List ℕ → Bool
 noTake bytes = ltb 8192 (countOf bytes) || (ltb 256 (entriesOf bytes) || ltb (length bytes) (startOf bytes))
 
--- "requests of 13 bytes: a kind byte and three numbers a, b, c": 01 "searches from a to b", 02 "is the stretch from a to b", 04 "makes index entry a the signed number b". Any other kind
--- byte is unknown, 03 with them. "c is not used yet"
-abbrev pub requestOf : (kind a b : ℕ) → Option Request
-requestOf kind a b =
+-- "requests of 13 bytes: a kind byte and three numbers a, b, c": 01 "searches from a to b", 02 "is the stretch from a to b", 03 "is a rough reading from a to b with the budget c", 04 "makes
+-- index entry a the signed number b". Any other kind byte is unknown. "c is used by 03 alone"
+abbrev pub requestOf : (kind a b c : ℕ) → Option Request
+requestOf kind a b c =
     cond (eqb kind 1) (some (Search a b))
     (cond (eqb kind 2) (some (Stretch a b))
+    (cond (eqb kind 3) (some (Rough a b c))
     (cond (eqb kind 4) (some (Set a (signedOf b)))
-    none))
+    none)))
 
 -- the request at an offset. There is none where "fewer than 13 bytes .. are left"
 abbrev pub requestAt : List ℕ → ℕ → Option Request
-requestAt bytes at = cond (ltb (length bytes) (at + 13)) none (requestOf (getD bytes at 0) (numberAt bytes (at + 1)) (numberAt bytes (at + 5)))
+requestAt bytes at =
+    cond (ltb (length bytes) (at + 13)) none
+    (requestOf (getD bytes at 0) (numberAt bytes (at + 1)) (numberAt bytes (at + 5)) (numberAt bytes (at + 9)))
 
 -- a request, where there is one, and those behind it; where there is none, "it reads no more"
 abbrev pub goesOn : Option Request → (behind : List Request) → List Request

@@ -2,12 +2,14 @@
 -- ends with a line feed, as in the other programs.
 use mathlib.Core.Bool.{cond}
 use mathlib.Core.List.{List, [], _∷_, _++_}
+use mathlib.Core.Option.{Option, none, some}
 use Prim.Native.Nat.{ℕ, _-_}
 use lib.Dec.{eqb}
 use lib.IntN.{ℤ, pos}
 use lib.ListN.{length, getD}
 use Rattle.blocks.specs.declared.Found.{Found}
 use Rattle.blocks.specs.Takes.{Told}
+use Rattle.rough.specs.Looks.{ToldReading}
 use Rattle.text.specs.Writing.{decimalOf}
 use Rattle.text.specs.Parts.{spaced, newline, valueText, toldText}
 
@@ -46,6 +48,19 @@ endsText part = cond (eqb (length part) 0) [] (valueText (getD part 0 (pos 0)) +
 abbrev pub stretchLine : ℕ → List ℤ → List ℕ
 stretchLine number part =
     decimalOf number ++ spaced (115 ∷ 116 ∷ 114 ∷ 101 ∷ 116 ∷ 99 ∷ 104 ∷ spaced (decimalOf (length part) ++ (endsText part ++ newline)))
+
+-- "the high figure or `-`, the low figure or `-`"
+abbrev pub figureText : Option ℤ → List ℕ
+figureText none = spaced (45 ∷ [])
+figureText (some v) = valueText v
+
+-- "the reply, the looks used", and both figures
+abbrev pub readingText : ToldReading → List ℕ
+readingText t = decimalOf (t .number) ++ (spaced (decimalOf (t .looks)) ++ (figureText (t .high) ++ figureText (t .low)))
+
+-- "number, `rough`", and these
+abbrev pub roughLine : ℕ → ToldReading → List ℕ
+roughLine number t = decimalOf number ++ spaced (114 ∷ 111 ∷ 117 ∷ 103 ∷ 104 ∷ spaced (readingText t ++ newline))
 
 -- "number and `set`"
 abbrev pub setLine : ℕ → List ℕ

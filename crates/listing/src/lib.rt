@@ -10,11 +10,25 @@ ghost use Rattle.listing.specs.Choices.{Prints};
 ghost use Rattle.listing.specs.Private.{Headed, Heads, readAs, Performs, Follows, Holds, Plays};
 use numbers::number_at;
 
-// What is asked of a take: its least value over a range, a stretch of it, or another number in its index.
+// What is asked of a take: its least value over a range, a stretch of it, a rough reading of a range, or another number in its index.
 pub enum Request {
-    Search { from: usize, to: usize },
-    Stretch { from: usize, to: usize },
-    Set { entry: usize, value: i32 },
+    Search {
+        from: usize,
+        to: usize,
+    },
+    Stretch {
+        from: usize,
+        to: usize,
+    },
+    Rough {
+        from: usize,
+        to: usize,
+        budget: usize,
+    },
+    Set {
+        entry: usize,
+        value: i32,
+    },
 }
 
 // What the first bytes say: how many values a take has, and how many entries its index has.
@@ -66,6 +80,7 @@ fn request_at(bytes: &[u8], at: usize) -> Reading
     }
     let a = number_at(bytes, at + 1) as usize;
     let b = number_at(bytes, at + 5);
+    let c = number_at(bytes, at + 9);
     match bytes[at] {
         1 => Reading::Next(Request::Search {
             from: a,
@@ -74,6 +89,11 @@ fn request_at(bytes: &[u8], at: usize) -> Reading
         2 => Reading::Next(Request::Stretch {
             from: a,
             to: b as usize,
+        }),
+        3 => Reading::Next(Request::Rough {
+            from: a,
+            to: b as usize,
+            budget: c as usize,
         }),
         4 => Reading::Next(Request::Set {
             entry: a,
@@ -107,6 +127,12 @@ fn perform(
             used,
             n,
             blocks::stretch(take, from, to),
+        ),
+        Request::Rough { from, to, budget } => lines::rough(
+            out,
+            used,
+            n,
+            rough::read(take, index, from, to, budget),
         ),
         Request::Set { entry, value } => {
             if entry < index.len() {

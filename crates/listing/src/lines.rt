@@ -1,11 +1,14 @@
 // The lines that `lookup` prints, each written behind the bytes that are written already, where there is room for the longest such line.
 ghost use Prim.Native.Nat.{_+_, _*_, _<_, _≤_};
 ghost use lib.ListN.{length};
-ghost use Rattle.blocks.specs.Takes.{told};
+ghost use Rattle.blocks.specs.Takes.{figure, told};
+ghost use Rattle.rough.specs.Looks.{told as toldReading};
 ghost use Rattle.text.specs.Writing.{Adds};
-ghost use Rattle.listing.specs.Lines.{noTakeLine, foundText, replyText, buildLine, indexLine, searchLine, endsText, stretchLine, setLine, endLine};
+ghost use Rattle.listing.specs.Lines.{noTakeLine, foundText, replyText, buildLine, indexLine, searchLine, endsText, stretchLine, figureText, readingText, roughLine, setLine, endLine};
 use blocks::Found;
+use blocks::Known;
 use blocks::Reply;
+use rough::Reading;
 use text::put;
 use text::put_number;
 use text::put_numbered;
@@ -96,6 +99,48 @@ pub fn stretch(out: &mut [u8], used: usize, n: usize, part: &[i32]) -> usize
     let long = put_numbered(out, number, b" stretch ", part.len() as u64);
     let shown = ends(out, long, part);
     put(out, shown, b"\n")
+}
+
+// A figure behind a space, or `-` where there is none.
+fn figure(out: &mut [u8], used: usize, known: Known) -> usize
+    requires { ⌜ used + 12 ≤ length (now out) ⌝ }
+    ensures { λ r. ⌜ Adds (now (out .entry)) used (figureText (figure known)) (now (out .exit)) r × (r ≤ used + 12) ⌝ }
+{
+    match known {
+        Known::Value(v) => put_value(out, used, v),
+        Known::Nothing => put(out, used, b" -"),
+    }
+}
+
+// A rough reading: the reply's number, the looks used and both figures; of a refusal its number, no look and no figure. Where there are figures the number is 0, and the text has no more than
+// 46 bytes: twenty digits of looks, and two values.
+fn reading(out: &mut [u8], used: usize, reading: Reading) -> usize
+    requires { ⌜ used + 46 ≤ length (now out) ⌝ }
+    ensures { λ r. ⌜ Adds (now (out .entry)) used (readingText (toldReading reading)) (now (out .exit)) r × (r ≤ used + 46) ⌝ }
+{
+    match reading {
+        Reading::Figures(figures) => {
+            let looks = put_numbered(out, used, b"0 ", figures.looks as u64);
+            let high = figures.high;
+            let shown = figure(out, looks, high);
+            put_value(out, shown, figures.low)
+        }
+        Reading::Refused(why) => {
+            let number = put_number(out, used, history::number(why) as u64);
+            put(out, number, b" 0 - -")
+        }
+    }
+}
+
+// The line of the n-th request, a rough reading.
+pub fn rough(out: &mut [u8], used: usize, n: usize, replied: Reading) -> usize
+    requires { ⌜ (n < 100000) × (used + 59 ≤ length (now out)) ⌝ }
+    ensures { λ r. ⌜ Adds (now (out .entry)) used (roughLine n (toldReading replied)) (now (out .exit)) r × (r ≤ used + 59) ⌝ }
+{
+    let number = put_number(out, used, n as u64);
+    let word = put(out, number, b" rough ");
+    let said = reading(out, word, replied);
+    put(out, said, b"\n")
 }
 
 // The line of the n-th request, a `set`.

@@ -1,4 +1,4 @@
-// `lookup` of document 02, point 3: reads a take, the length of its index and requests from standard input, as bytes, and writes all that is printed of them to standard output. What that is,
+// `lookup` of document 02, points 3 and 6: reads a take, the length of its index and requests from standard input, as bytes, and writes all that is printed of them to standard output. What that is,
 // is proved in `listing`.
 fn main() {
     let mut bytes = [0u8; 65536];
