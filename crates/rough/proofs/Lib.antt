@@ -7,6 +7,9 @@ pub mod Readings
 pub mod Bounds
 pub mod Truth
 pub mod Listed
+pub mod Stages
+pub mod Bracket
+pub mod Agreement
 pub mod Point
 pub mod Tied
 pub mod Examples
