@@ -1,4 +1,5 @@
-// A stored take's search and building against plain Rust: a scan of the range, and a sparse table. The same replies, the time and the instructions of a call, and the longest call.
+// A stored take's search, building and rough reading against plain Rust: a scan of the range, a sparse table, and the same reading with iterators. The same replies, the time and the instructions
+// of a call, and the longest call.
 // tools/bench-takes builds this with the library for C, and runs it; docs/BENCH.md says what is measured.
 use std::hint::black_box;
 use std::time::Instant;
@@ -12,9 +13,20 @@ pub struct Found {
     place: u64,
 }
 
+#[repr(C)]
+#[derive(Clone, Copy)]
+pub struct Reading {
+    looks: u64,
+    number: u32,
+    known: u32,
+    high: i32,
+    low: i32,
+}
+
 extern "C" {
     fn filkotar_build(take: *const i32, length: u64, index: *mut i32, blocks: u64) -> u32;
     fn filkotar_search(take: *const i32, length: u64, index: *const i32, blocks: u64, i: u64, j: u64) -> Found;
+    fn filkotar_rough(take: *const i32, length: u64, index: *const i32, blocks: u64, i: u64, j: u64, budget: u64) -> Reading;
 }
 
 pub struct Ours<'a> {
@@ -108,6 +120,62 @@ pub fn table_search(table: &Table, i: usize, j: usize) -> (i32, usize) {
     (table.take[place as usize], place as usize)
 }
 
+// A rough reading as Rust has it: the looks that were used, the high figure where there is one, and the low figure. A refusal is its number.
+#[derive(Clone, Copy, Debug, PartialEq)]
+pub struct Rough {
+    looks: usize,
+    high: Option<i32>,
+    low: i32,
+}
+
+#[inline(always)]
+fn rough_ours(take: &[i32], index: &[i32], i: usize, j: usize, budget: usize) -> Result<Rough, u32> {
+    let r = unsafe { filkotar_rough(take.as_ptr(), take.len() as u64, index.as_ptr(), index.len() as u64, i as u64, j as u64, budget as u64) };
+    match r.number {
+        0 => Ok(Rough { looks: r.looks as usize, high: (r.known == 1).then_some(r.high), low: r.low }),
+        number => Err(number),
+    }
+}
+
+// The plain program: the least of what the budget allows of the entries of blocks wholly inside, and then of the values on the left and on the right of these.
+#[no_mangle]
+#[inline(never)]
+pub fn rough_peer(take: &[i32], index: &[i32], i: usize, j: usize, budget: usize) -> Result<Rough, u32> {
+    if index.len() != take.len().div_ceil(64) {
+        return Err(15);
+    }
+    if i > j || j >= take.len() {
+        return Err(14);
+    }
+    // the blocks that meet the range go from `first` to before `end`, those wholly inside from `inner` to before `outer`
+    let (first, end) = (i / 64, j / 64 + 1);
+    let inner = i.div_ceil(64);
+    let outer = if j + 1 == take.len() { end } else { (j + 1) / 64 }.max(inner);
+    let entries = end - first;
+    let whole = index[inner..outer].iter().copied().take(budget.saturating_sub(inner - first)).min();
+    if budget < entries {
+        return Ok(Rough { looks: budget, high: whole, low: i32::MIN });
+    }
+    let (left, right) = (&take[i..(64 * inner).min(j + 1)], &take[(64 * outer).min(j + 1)..=j]);
+    let full = entries + left.len() + right.len();
+    let rest = budget - entries;
+    let edges = least(left.iter().copied().take(rest).min(), right.iter().copied().take(rest.saturating_sub(left.len())).min());
+    let high = least(whole, edges);
+    if budget < full {
+        let partly = index[first..inner].iter().chain(&index[outer..end]).copied().min();
+        return Ok(Rough { looks: budget, high, low: least(whole, partly).unwrap() });
+    }
+    Ok(Rough { looks: full, high, low: high.unwrap() })
+}
+
+#[inline(always)]
+fn least(a: Option<i32>, b: Option<i32>) -> Option<i32> {
+    match (a, b) {
+        (Some(a), Some(b)) => Some(a.min(b)),
+        _ => a.or(b),
+    }
+}
+
 // Building, by the names that the counts go by; and what it is compared with, the least of the whole take: of the values, and, as `min` is mostly written, of references to them.
 #[no_mangle]
 #[inline(never)]
@@ -196,6 +264,38 @@ pub fn side_table(table: &Table, starts: &[usize], length: usize) -> u64 {
     fold(starts, length, |i, j| table_search(table, i, j))
 }
 
+// The sides of a rough reading: both read the ranges with a budget, and ours searches them, too.
+fn shown(reading: Result<Rough, u32>) -> (i32, usize) {
+    let rough = reading.unwrap();
+    (rough.high.unwrap_or(0) ^ rough.low, rough.looks)
+}
+
+#[no_mangle]
+#[inline(never)]
+pub fn side_rough_ours(ours: &Ours, starts: &[usize], length: usize, budget: usize) -> u64 {
+    fold(starts, length, |i, j| shown(rough_ours(ours.take, &ours.index, i, j, budget)))
+}
+
+#[no_mangle]
+#[inline(never)]
+pub fn side_rough_peer(ours: &Ours, starts: &[usize], length: usize, budget: usize) -> u64 {
+    fold(starts, length, |i, j| shown(rough_peer(ours.take, &ours.index, i, j, budget)))
+}
+
+fn read(side: &str, ours: &Ours, starts: &[usize], length: usize, budget: usize) -> u64 {
+    black_box(match side {
+        "ours" => side_rough_ours(ours, starts, length, budget),
+        "peer" => side_rough_peer(ours, starts, length, budget),
+        "search" => side_ours(ours, starts, length),
+        _ => panic!("no side is called {side}"),
+    })
+}
+
+const READERS: [&str; 3] = ["ours", "peer", "search"];
+// which ranges are read, how many of them in a round, and with which budgets
+const READ: [(usize, usize); 3] = [(10_000, 2000), (1_000_000, 1000), (VALUES, 1000)];
+const BUDGETS: [&str; 4] = ["1", "100", "10000", "all"];
+
 const SIDES: [&str; 4] = ["ours", "once", "twice", "table"];
 const LENGTHS: [usize; 4] = [100, 10_000, 1_000_000, VALUES];
 // how many values an index is built of
@@ -264,7 +364,67 @@ fn compare() {
             }
         }
     }
+    TAKES.iter().for_each(|kind| compare_readings(kind));
     println!("every reply is the same");
+}
+
+fn same_reading(take: &[i32], index: &[i32], kind: &str, i: usize, j: usize, budget: usize) -> Result<Rough, u32> {
+    let (a, b) = (rough_ours(take, index, i, j, budget), rough_peer(take, index, i, j, budget));
+    if a != b {
+        differ("a rough reading by ours and by the peer", kind, take.len(), i, j, (index.len(), budget, a, b));
+    }
+    a
+}
+
+// An index of as many entries, whatever these are: few different ones, or any.
+fn altered(index: &[i32], spread: i32) -> Vec<i32> {
+    let mut random = Random(0x0fed_cba9_8765_4321);
+    index.iter().map(|_| random.next() as i32 % spread).collect()
+}
+
+// Every rough reading of ours and of the peer: for all ranges of short takes, with every budget up to one more than all looks and with the largest; for random ranges of the take that is timed, with
+// random budgets; and what is refused. Over the index that was built, and over others.
+fn compare_readings(kind: &str) {
+    for (length, spread) in (1..=70).chain([127, 128, 129, 191, 192, 200]).map(|n| (n, i32::MAX)).chain([(64, 2), (65, 2), (130, 2), (200, 5)]) {
+        let values: Vec<i32> = take(kind, length).iter().map(|v| v % spread).collect();
+        let built = Ours::new(&values).index;
+        for index in [altered(&built, 3), altered(&built, i32::MAX), built] {
+            for i in 0..length {
+                for j in i..length {
+                    let all = same_reading(&values, &index, kind, i, j, usize::MAX).unwrap().looks;
+                    for budget in 0..=all + 1 {
+                        let used = same_reading(&values, &index, kind, i, j, budget).unwrap().looks;
+                        assert_eq!(used, budget.min(all));
+                    }
+                }
+            }
+            let longer = [&index[..], &[0]].concat();
+            for budget in [0, 1, 100, usize::MAX] {
+                for (i, j) in [(0, length), (0, usize::MAX), (length, length), (usize::MAX, usize::MAX), (1, 0), (length - 1, length - 2.min(length)), (usize::MAX, 0)] {
+                    if i > j || j >= length {
+                        assert_eq!(same_reading(&values, &index, kind, i, j, budget), Err(14));
+                    }
+                    for other in [&longer[..], &index[1..]] {
+                        assert_eq!(same_reading(&values, other, kind, i, j, budget), Err(15));
+                    }
+                }
+            }
+        }
+    }
+    let values = take(kind, VALUES);
+    let built = Ours::new(&values).index;
+    let mut random = Random(0x1357_9bdf_0246_8ace);
+    for index in [altered(&built, 1000), altered(&built, i32::MAX), built] {
+        for (length, count) in [(1, 1000), (100, 1000), (10_000, 1000), (1_000_000, 100), (VALUES / 2, 10), (VALUES - 1, 2), (VALUES, 10)] {
+            for i in ranges(length, VALUES, count) {
+                let j = i + length - 1;
+                let all = same_reading(&values, &index, kind, i, j, usize::MAX).unwrap().looks;
+                for budget in [0, 1, 100, 10_000, random.next() as usize % all, all - 1, all, all + 1] {
+                    same_reading(&values, &index, kind, i, j, budget).unwrap();
+                }
+            }
+        }
+    }
 }
 
 // The quickest of the rounds, since what else the machine does can only slow a round, and their median.
@@ -324,6 +484,28 @@ fn time_building(rounds: usize, values: &[i32], kind: &str) {
     }
 }
 
+// Nanoseconds a rough reading with a budget, and a search of the same ranges; and how many looks were used, of all readings.
+fn time_readings(rounds: usize) {
+    let values = take("random", VALUES);
+    let ours = Ours::new(&values);
+    for (length, count) in READ {
+        let starts = ranges(length, VALUES, count);
+        for word in BUDGETS {
+            let budget = allowed(word);
+            let looks: usize = starts.iter().map(|&i| rough_ours(&values, &ours.index, i, i + length - 1, budget).unwrap().looks).sum();
+            let times = rounds_of(rounds, READERS, |side| {
+                let start = Instant::now();
+                read(side, &ours, &starts, length, budget);
+                start.elapsed().as_secs_f64() * 1e9 / count as f64
+            });
+            for (side, all) in READERS.iter().zip(times) {
+                let (least, median) = quickest(all);
+                println!("rough {side} {length} {word} {} {least:.3} {median:.3}", looks as f64 / count as f64);
+            }
+        }
+    }
+}
+
 // Nanoseconds a search.
 fn time(rounds: usize) {
     for kind in TAKES {
@@ -347,6 +529,7 @@ fn time(rounds: usize) {
             }
         }
     }
+    time_readings(rounds);
 }
 
 // Searches of random ranges of a take, for a count of their instructions; and one building.
@@ -355,6 +538,13 @@ fn count(side: &str, length: usize, kind: &str, of: usize) {
     let starts = ranges(length, of, SEARCHES);
     let (ours, table) = (Ours::new(&values), if side == "table" { Some(Table::new(&values)) } else { None });
     Sides { take: &values, ours, table }.run(side, if length < of { &starts } else { &starts[..1] }, length);
+}
+
+// Rough readings of the same ranges.
+fn count_reading(side: &str, length: usize, kind: &str, budget: usize) {
+    let values = take(kind, VALUES);
+    let starts = ranges(length, VALUES, SEARCHES);
+    read(side, &Ours::new(&values), if length < VALUES { &starts } else { &starts[..1] }, length, budget);
 }
 
 fn count_building(side: &str, length: usize) {
@@ -395,8 +585,41 @@ fn calls(length: usize) {
     }
 }
 
+// The longest rough readings with so many looks. A range begins at each place of a block, and ends with up to 16 values of another; or it ends where the take does, with a whole block or a
+// shorter one. As many blocks are wholly inside as make it so many looks in all; one more, which the budget does not allow; and 128 more, so that the budget ends among the entries. And the
+// ranges within a block. All values are equal, so that of two parts always the earlier one's least is kept, which takes longest.
+fn readings(looks: usize) {
+    let (values, index) = (vec![7; 64 * (looks + 131)], vec![7; looks + 131]);
+    let take = |n: usize| (&values[..n], &index[..n.div_ceil(64)]);
+    let all = |n: usize, i: usize, j: usize| rough_peer(take(n).0, take(n).1, i, j, usize::MAX).unwrap().looks;
+    let read = |n: usize, i: usize, j: usize| assert_eq!(rough_ours(take(n).0, take(n).1, i, j, looks).unwrap().looks, looks);
+    for begin in 0..64usize {
+        for (tail, behind) in (0..=16).map(|tail| (tail, 64)).chain([(0, 0), (1, 0)]) {
+            let near = begin.next_multiple_of(64) + tail;
+            let fewest = if begin < near { all(near + behind, begin, near - 1) } else { 0 };
+            for wanted in [looks, looks + 1, looks + 128] {
+                if fewest <= wanted {
+                    let end = near + 64 * (wanted - fewest);
+                    read(end + behind, begin, end - 1);
+                }
+            }
+        }
+        for end in (begin..64).filter(|&end| all(128, begin, end) >= looks) {
+            read(128, begin, end);
+        }
+    }
+}
+
 fn number(word: &str) -> usize {
     word.parse().expect("a number")
+}
+
+// How many looks a word allows.
+fn allowed(word: &str) -> usize {
+    match word {
+        "all" => usize::MAX,
+        _ => number(word),
+    }
 }
 
 fn main() {
@@ -408,8 +631,10 @@ fn main() {
         ["count", side, length, kind, of] => count(side, number(length), kind, number(of)),
         ["build", side, length] => count_building(side, number(length)),
         ["calls", length] => calls(number(length)),
+        ["rough", side, length, kind, budget] => count_reading(side, number(length), kind, allowed(budget)),
+        ["readings", looks] => readings(number(looks)),
         _ => {
-            eprintln!("usage: driver compare | time ROUNDS | count SIDE LENGTH TAKE VALUES | build ours|scan LENGTH | calls LENGTH");
+            eprintln!("usage: driver compare | time ROUNDS | count SIDE LENGTH TAKE VALUES | build ours|scan LENGTH | calls LENGTH | rough SIDE LENGTH TAKE LOOKS|all | readings LOOKS");
             std::process::exit(2);
         }
     }

@@ -61,8 +61,7 @@ allowed-search values index i j rs f fs a = (a .0, a .1)
 allowed-stretch : (values index : List ℤ) (i j : ℕ) (rs : List Request) (f : Found) (fs : List Found) → AllAllowed values index (Stretch i j ∷ rs) (f ∷ fs) → AllAllowed values index rs fs
 allowed-stretch values index i j rs f fs a = a .1
 
-allowed-rough : (values index : List ℤ) (i j budget : ℕ) (rs : List Request) (f : Found) (fs : List Found) → AllAllowed values index (Rough i j budget ∷ rs) (f ∷ fs)
-    → AllAllowed values index rs fs
+allowed-rough : (values index : List ℤ) (i j budget : ℕ) (rs : List Request) (f : Found) (fs : List Found) → AllAllowed values index (Rough i j budget ∷ rs) (f ∷ fs) → AllAllowed values index rs fs
 allowed-rough values index i j budget rs f fs a = a .1
 
 allowed-set : (values index : List ℤ) (k : ℕ) (v : ℤ) (rs : List Request) (f : Found) (fs : List Found) → AllAllowed values index (Set k v ∷ rs) (f ∷ fs)

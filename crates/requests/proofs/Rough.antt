@@ -29,12 +29,16 @@ use Rattle.blocks.specs.Examples.{Each}
 use Rattle.blocks.proofs.Tied.{Built, Searched}
 use Rattle.rough.specs.declared.Reading.{Reading}
 use Rattle.rough.specs.Looks.{Look, Entry, Value, looks, looksUsed, roughReading, told}
-use Rattle.rough.specs.Promises.{readBy, Among, Before, InOrder, Point6}
+use Rattle.rough.specs.Promises.{readBy, Partly, Among, Before, InOrder, Known, Point6}
 use Rattle.rough.specs.Examples.{roughed, readings, ordered, orders, Gives, fullCount}
 use Rattle.rough.proofs.Truth.{true-stands, true-under}
 use Rattle.rough.proofs.Tied as tied
 use Rattle.rough.proofs.Tied.{Read, read-of}
 use Rattle.rough.proofs.Examples as worked
+use Rattle.blocks.proofs.due.Reads as due-reads
+use Rattle.blocks.proofs.least_of.Reads as least-of-reads
+use Rattle.blocks.proofs.block_count.Reads as block-count-reads
+use Rattle.blocks.proofs.blocks_before.Reads as blocks-before-reads
 use Rattle.rough.proofs.read as read-function
 use Rattle.rough.proofs.read.Reads as read-reads
 use Rattle.requests.proofs.Takes.{index-built, shown-least}
@@ -51,7 +55,7 @@ orders-worked = worked.orders-worked
 full-count : fullCount ≡ 80
 full-count = worked.full-count-worked
 
-examples-count : (length readings ≡ 38) × (length orders ≡ 9)
+examples-count : (length readings ≡ 41) × (length orders ≡ 9)
 examples-count = (refl, refl)
 
 readings-given : Each (Gives Read) readings
@@ -66,6 +70,19 @@ reads-no-more = read-of
 
 read-asks-nothing : (κs : Lfts 2) (x y : RefT (List ℤ)) (i j B : ℕ) → read-reads.Asked κs (x, (y, (i, (j, (B, tt)))))
 read-asks-nothing κs x y i j B = tt
+
+-- nor do the functions of `blocks` that it stands on
+due-asks-nothing : (κs : Lfts 0) (n m i j : ℕ) → due-reads.Asked κs (n, (m, (i, (j, tt))))
+due-asks-nothing κs n m i j = tt
+
+least-of-asks-nothing : (κs : Lfts 1) (x : RefT (List ℤ)) → least-of-reads.Asked κs (x, tt)
+least-of-asks-nothing κs x = tt
+
+block-count-asks-nothing : (κs : Lfts 0) (n : ℕ) → block-count-reads.Asked κs (n, tt)
+block-count-asks-nothing κs n = tt
+
+blocks-before-asks-nothing : (κs : Lfts 0) (n e : ℕ) → blocks-before-reads.Asked κs (n, (e, tt))
+blocks-before-asks-nothing κs n e = tt
 
 -- it takes two slices of signed values and three numbers of 64 bits
 read-takes : read-function.signature .params
@@ -91,6 +108,16 @@ module _ (n i j : ℕ) (l : i ≤ j) (h : j < n) where
   -- "left to right" twice, entries before values
   pub looked-in-order : InOrder (looks n i j)
   looked-in-order = point-6 .looked n i j l h .order
+
+-- being among looks is what it says
+none-among : (x : Look) → Among x [] → ⊥
+none-among x m = m
+
+first-among : (x : Look) (ls : List Look) → Among x (x ∷ ls)
+first-among x ls = inl refl
+
+rest-among : (x l : Look) (ls : List Look) → Among x (l ∷ ls) → (x ≡ l) ⊎ Among x ls
+rest-among x l ls m = m
 
 order-of-entries : (a b : ℕ) → Before (Entry a) (Entry b) → a < b
 order-of-entries a b m = m
@@ -133,22 +160,49 @@ module _ (values index : List ℤ) (i j B : ℕ) (r : Reading) (q : Read values 
   pub rough-early : length index ≡ (length values + 63) / 64 → i ≤ j → j < length values → B < j / 64 + 1 - i / 64 → told r .low ≡ some (negsuc 2147483647)
   rough-early n l h b = point-6 .reading values index i j B r q .early n l h b
 
-pub rough-nothing : (values index : List ℤ) (i j : ℕ) (r : Reading) → Read values index i j 0 r → length index ≡ (length values + 63) / 64 → i ≤ j → j < length values
-    → told r ≡ record { number = 0; looks = 0; high = none; low = some (negsuc 2147483647) }
+  -- "then the least entry": of the blocks from that of i to that of j
+  pub rough-entry : length index ≡ (length values + 63) / 64 → i ≤ j → j < length values → j / 64 + 1 - i / 64 ≤ B → B < length (looks (length values) i j) → (v : ℤ) → told r .low ≡ some v → (b : ℕ) × (i / 64 ≤ b) × (b ≤ j / 64) × (getD index b (pos 0) ≡ v)
+  rough-entry n l h b c v e = point-6 .reading values index i j B r q .between n l h b c v e .0
+
+  pub rough-least-entry : length index ≡ (length values + 63) / 64 → i ≤ j → j < length values → j / 64 + 1 - i / 64 ≤ B → B < length (looks (length values) i j) → (v : ℤ) → told r .low ≡ some v → (b : ℕ) → i / 64 ≤ b → b ≤ j / 64 → leZ v (getD index b (pos 0)) ≡ true
+  rough-least-entry n l h b c v e = point-6 .reading values index i j B r q .between n l h b c v e .1
+
+  -- "and at the full count the high figure"
+  pub rough-full : length index ≡ (length values + 63) / 64 → i ≤ j → j < length values → length (looks (length values) i j) ≤ B → told r .low ≡ told r .high
+  rough-full n l h b = point-6 .reading values index i j B r q .full n l h b
+
+  -- "High is the least known value": at most each value that was looked at, and the entry of each block that was looked at and has no value outside the range
+  pub rough-value : length index ≡ (length values + 63) / 64 → i ≤ j → j < length values → (v : ℤ) → told r .high ≡ some v → (k : ℕ) → Among (Value k) (looksUsed (length values) i j B) → leZ v (getD values k (pos 0)) ≡ true
+  rough-value n l h v e k m = point-6 .reading values index i j B r q .high n l h v e .1 (Value k) m tt
+
+  pub rough-inside : length index ≡ (length values + 63) / 64 → i ≤ j → j < length values → (v : ℤ) → told r .high ≡ some v → (b : ℕ) → Among (Entry b) (looksUsed (length values) i j B) → ((m : ℕ) → m < length values → m / 64 ≡ b → (i ≤ m) × (m ≤ j)) → leZ v (getD index b (pos 0)) ≡ true
+  rough-inside n l h v e b m u = point-6 .reading values index i j B r q .high n l h v e .1 (Entry b) m (none-outside b u)
+    where
+      none-outside : (b : ℕ) → ((m : ℕ) → m < length values → m / 64 ≡ b → (i ≤ m) × (m ≤ j)) → Partly (length values) i j b → ⊥
+      none-outside b u (m, s, e, inl o) = omega (arith, u m s e .0, o)
+      none-outside b u (m, s, e, inr o) = omega (arith, u m s e .1, o)
+
+  -- and one of these
+  pub rough-known : length index ≡ (length values + 63) / 64 → i ≤ j → j < length values → (v : ℤ) → told r .high ≡ some v → (look : Look) × Among look (looksUsed (length values) i j B) × Known (length values) i j look × (readBy values index look ≡ v)
+  rough-known n l h v e = point-6 .reading values index i j B r q .high n l h v e .0
+
+  -- "with none known the reply says so": no value was looked at, and no entry of a block wholly inside
+  pub rough-unknown : length index ≡ (length values + 63) / 64 → i ≤ j → j < length values → told r .high ≡ none → (k : ℕ) → Among (Value k) (looksUsed (length values) i j B) → ⊥
+  rough-unknown n l h e k m = point-6 .reading values index i j B r q .unknown n l h e (Value k) m tt
+
+pub rough-nothing : (values index : List ℤ) (i j : ℕ) (r : Reading) → Read values index i j 0 r → length index ≡ (length values + 63) / 64 → i ≤ j → j < length values → told r ≡ record { number = 0; looks = 0; high = none; low = some (negsuc 2147483647) }
 rough-nothing values index i j r q n l h = point-6 .reading values index i j 0 r q .nothing n l h refl
 
 -- OVER AN INDEX BUILT FROM THAT TAKE
 module _ (values index : List ℤ) (i j B : ℕ) (r : Reading) (q : Read values index i j B r) (e : index ≡ blockMinima values) (l : i ≤ j) (h : j < length values) where
   -- "both equal the exact least value once the full count is used": a value of the range, than which no other there is lower
-  pub rough-exact : length (looks (length values) i j) ≤ B
-      → (v : ℤ) × (told r .high ≡ some v) × (told r .low ≡ some v) × ((k : ℕ) × (i ≤ k) × (k ≤ j) × (getD values k (pos 0) ≡ v)) × ((k : ℕ) → i ≤ k → k ≤ j → leZ v (getD values k (pos 0)) ≡ true)
+  pub rough-exact : length (looks (length values) i j) ≤ B → (v : ℤ) × (told r .high ≡ some v) × (told r .low ≡ some v) × ((k : ℕ) × (i ≤ k) × (k ≤ j) × (getD values k (pos 0) ≡ v)) × ((k : ℕ) → i ≤ k → k ≤ j → leZ v (getD values k (pos 0)) ≡ true)
   rough-exact b =
       let x = point-6 .built values index i j B r q e l h .exact b in
       (rangeMinimum values i j .value, x .0, x .1, true-stands values i j l h, true-under values i j l h)
 
   -- "low is never above the true one": it is at most each value of the range
-  pub rough-below : ((k : ℕ) → k < length values → leZ (negsuc 2147483647) (getD values k (pos 0)) ≡ true) → (v : ℤ) → told r .low ≡ some v
-      → (k : ℕ) → i ≤ k → k ≤ j → leZ v (getD values k (pos 0)) ≡ true
+  pub rough-below : ((k : ℕ) → k < length values → leZ (negsuc 2147483647) (getD values k (pos 0)) ≡ true) → (v : ℤ) → told r .low ≡ some v → (k : ℕ) → i ≤ k → k ≤ j → leZ v (getD values k (pos 0)) ≡ true
   rough-below n v s k f t =
       leZ-trans v (rangeMinimum values i j .value) (getD values k (pos 0)) (point-6 .built values index i j B r q e l h .below n v s) (true-under values i j l h k f t)
 
@@ -160,16 +214,14 @@ module _ (values index : List ℤ) (i j B : ℕ) (r : Reading) (q : Read values 
 
 -- "a bigger budget never lowers low, raises a shown high or takes one away"
 module _ (values index : List ℤ) (i j B C : ℕ) (r s : Reading) (q : Read values index i j B r) (p : Read values index i j C s) (n : length index ≡ (length values + 63) / 64) (l : i ≤ j) (h : j < length values) (b : B ≤ C) where
-  pub low-rises : index ≡ blockMinima values → ((k : ℕ) → k < length values → leZ (negsuc 2147483647) (getD values k (pos 0)) ≡ true)
-      → (v w : ℤ) → told r .low ≡ some v → told s .low ≡ some w → leZ v w ≡ true
+  pub low-rises : index ≡ blockMinima values → ((k : ℕ) → k < length values → leZ (negsuc 2147483647) (getD values k (pos 0)) ≡ true) → (v w : ℤ) → told r .low ≡ some v → told s .low ≡ some w → leZ v w ≡ true
   low-rises e m v w x y = point-6 .bigger values index i j B C r s q p n l h b .low e m v w x y
 
   pub high-falls : (v : ℤ) → told r .high ≡ some v → (w : ℤ) × (told s .high ≡ some w) × (leZ w v ≡ true)
   high-falls v x = point-6 .bigger values index i j B C r s q p n l h b .high v x
 
 -- the looks are real: a value that no look that is used reads may be another, and so may an entry
-pub looks-are-real : (values index others entries : List ℤ) (i j B : ℕ) (r s : Reading) → Read values index i j B r → Read others entries i j B s → length values ≡ length others
-    → length index ≡ length entries → map (readBy values index) (looksUsed (length values) i j B) ≡ map (readBy others entries) (looksUsed (length values) i j B) → told r ≡ told s
+pub looks-are-real : (values index others entries : List ℤ) (i j B : ℕ) (r s : Reading) → Read values index i j B r → Read others entries i j B s → length values ≡ length others → length index ≡ length entries → map (readBy values index) (looksUsed (length values) i j B) ≡ map (readBy others entries) (looksUsed (length values) i j B) → told r ≡ told s
 looks-are-real values index others entries i j B r s q p n m e = point-6 .agreed values index others entries i j B r s q p n m e
 
 -- what a look reads is the entry or the value
@@ -180,9 +232,7 @@ reads-value : (values index : List ℤ) (k : ℕ) → readBy values index (Value
 reads-value values index k = refl
 
 -- as it is used: an index that `build` left, whatever it held before; with all looks, both figures are what `search` shows
-built-and-read : (values before after : List ℤ) (b s : Reply) (i j B : ℕ) (r : Reading) → Built values before after b → Searched values after i j s → Read values after i j B r
-    → length before ≡ (length values + 63) / 64 → i ≤ j → j < length values → length (looks (length values) i j) ≤ B
-    → (f : Found) × (takes.told s ≡ showing f) × (told r .high ≡ some (f .value)) × (told r .low ≡ some (f .value))
+built-and-read : (values before after : List ℤ) (b s : Reply) (i j B : ℕ) (r : Reading) → Built values before after b → Searched values after i j s → Read values after i j B r → length before ≡ (length values + 63) / 64 → i ≤ j → j < length values → length (looks (length values) i j) ≤ B → (f : Found) × (takes.told s ≡ showing f) × (told r .high ≡ some (f .value)) × (told r .low ≡ some (f .value))
 built-and-read values before after b s i j B r p t q n l h c =
     let e = index-built values before after b p n .1 in
     let x = point-6 .built values after i j B r q e l h .exact c in

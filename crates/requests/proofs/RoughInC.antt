@@ -18,8 +18,8 @@ use denote.Struct.Field.{usize-field, u32-field, i32-field}
 use Rattle.laws.proofs.Order.{leZ-trans}
 use Rattle.blocks.specs.Takes.{rangeMinimum, blockMinima}
 use Rattle.rough.specs.declared.Reading.{Reading}
-use Rattle.rough.specs.Looks.{looks, looksUsed, ToldReading, roughReading, told}
-use Rattle.rough.specs.Promises.{ReadSays, readBy, Point6}
+use Rattle.rough.specs.Looks.{Value, looks, looksUsed, ToldReading, roughReading, told}
+use Rattle.rough.specs.Promises.{ReadSays, readBy, Among, Point6}
 use Rattle.rough.proofs.Point as point
 use Rattle.rough.proofs.Truth.{true-stands, true-under}
 use Rattle.firmware.specs.declared.readings.ReadingNumbers.{ReadingNumbers}
@@ -76,6 +76,13 @@ shown-high t e = go (t .high) e
 shown-low : (t : ToldReading) (v : ℤ) → t .low ≡ some v → readingInNumbers t .low ≡ v
 shown-low t v e = ap shownNumber e
 
+-- the least value of the range, of C's own array: a value of it, and at most each
+pub record Exact (values : List ℤ) (i j : ℕ) (r : ReadingNumbers) : Type 0 where
+  pub known : r .known ≡ 1
+  pub same : r .low ≡ r .high
+  pub stands : (k : ℕ) × (i ≤ k) × (k ≤ j) × (getD values k (pos 0) ≡ r .high)
+  pub least : (k : ℕ) → i ≤ k → k ≤ j → leZ (r .high) (getD values k (pos 0)) ≡ true
+
 -- EVERY READING, over any index
 module _ (values index : List ℤ) (i j B : ℕ) (r : ReadingNumbers) (t : RoughTold values index i j B r) where
   abbrev reading : Reading
@@ -99,21 +106,35 @@ module _ (values index : List ℤ) (i j B : ℕ) (r : ReadingNumbers) (t : Rough
   rough-early n l h b =
       ap (λ (x : ReadingNumbers). x .low) (t .3 .numbers) ∙ shown-low (told reading) (negsuc 2147483647) (point-6 .reading values index i j B reading (t .3 .reads) .early n l h b)
 
+  -- "and at the full count the high figure"
+  rough-full : length index ≡ (length values + 63) / 64 → i ≤ j → j < length values → length (looks (length values) i j) ≤ B → r .low ≡ r .high
+  rough-full n l h b =
+      ap (λ (x : ReadingNumbers). x .low) (t .3 .numbers)
+      ∙ ap shownNumber (point-6 .reading values index i j B reading (t .3 .reads) .full n l h b)
+      ∙ sym (ap (λ (x : ReadingNumbers). x .high) (t .3 .numbers))
+
+  -- "High is the least known value": at most each value that was looked at
+  rough-value : length index ≡ (length values + 63) / 64 → i ≤ j → j < length values → r .known ≡ 1 → (k : ℕ) → Among (Value k) (looksUsed (length values) i j B) → leZ (r .high) (getD values k (pos 0)) ≡ true
+  rough-value n l h q k m =
+      let known = sym (ap (λ (y : ReadingNumbers). y .known) (t .3 .numbers)) ∙ q in
+      let high : told reading .high ≡ some (r .high) = shown-high (told reading) known ∙ sym (ap (λ (y : ReadingNumbers). some (y .high)) (t .3 .numbers)) in
+      point-6 .reading values index i j B reading (t .3 .reads) .high n l h (r .high) high .1 (Value k) m tt
+
   -- OVER AN INDEX BUILT FROM THAT TAKE, in the values of C's own array
   module _ (e : index ≡ blockMinima values) (l : i ≤ j) (h : j < length values) where
     -- "both equal the exact least value once the full count is used"
-    rough-exact : length (looks (length values) i j) ≤ B
-        → (r .known ≡ 1) × (r .low ≡ r .high) × ((k : ℕ) × (i ≤ k) × (k ≤ j) × (getD values k (pos 0) ≡ r .high)) × ((k : ℕ) → i ≤ k → k ≤ j → leZ (r .high) (getD values k (pos 0)) ≡ true)
+    rough-exact : length (looks (length values) i j) ≤ B → Exact values i j r
     rough-exact b =
         let x = point-6 .built values index i j B reading (t .3 .reads) e l h .exact b in
         let is : r .high ≡ rangeMinimum values i j .value = ap (λ (y : ReadingNumbers). y .high) (t .3 .numbers) ∙ ap shownNumber (x .0) in
         let low : r .low ≡ rangeMinimum values i j .value = ap (λ (y : ReadingNumbers). y .low) (t .3 .numbers) ∙ ap shownNumber (x .1) in
-        let p = true-stands values i j l h in (
-          ap (λ (y : ReadingNumbers). y .known) (t .3 .numbers) ∙ ap knownNumber (x .0),
-          low ∙ sym is,
-          (p .0, p .1, p .2, p .3 ∙ sym is),
-          λ k f s. ap (λ (v : ℤ). leZ v (getD values k (pos 0))) is ∙ true-under values i j l h k f s,
-        )
+        let p = true-stands values i j l h in
+        record {
+          known = ap (λ (y : ReadingNumbers). y .known) (t .3 .numbers) ∙ ap knownNumber (x .0);
+          same = low ∙ sym is;
+          stands = (p .0, p .1, p .2, p .3 ∙ sym is);
+          least = λ k f s. ap (λ (v : ℤ). leZ v (getD values k (pos 0))) is ∙ true-under values i j l h k f s;
+        }
 
     -- "low is never above the true one nor a shown high below it"
     rough-below : ((k : ℕ) → k < length values → leZ (negsuc 2147483647) (getD values k (pos 0)) ≡ true) → (k : ℕ) → i ≤ k → k ≤ j → leZ (r .low) (getD values k (pos 0)) ≡ true
@@ -135,8 +156,7 @@ module _ (values index : List ℤ) (i j B : ℕ) (r : ReadingNumbers) (t : Rough
         (p .0, p .1, p .2, ap (λ (x : ℤ). leZ x (r .high)) (p .3) ∙ point-6 .built values index i j B reading (t .3 .reads) e l h .above (r .high) high)
 
 -- B = 0 on a range that the take has
-rough-nothing : (values index : List ℤ) (i j : ℕ) (r : ReadingNumbers) → RoughTold values index i j 0 r → length index ≡ (length values + 63) / 64 → i ≤ j → j < length values
-    → r ≡ record { looks = 0; number = 0; known = 0; high = pos 0; low = negsuc 2147483647 }
+rough-nothing : (values index : List ℤ) (i j : ℕ) (r : ReadingNumbers) → RoughTold values index i j 0 r → length index ≡ (length values + 63) / 64 → i ≤ j → j < length values → r ≡ record { looks = 0; number = 0; known = 0; high = pos 0; low = negsuc 2147483647 }
 rough-nothing values index i j r t n l h = t .3 .numbers ∙ ap readingInNumbers (point-6 .reading values index i j 0 (t .3 .reading) (t .3 .reads) .nothing n l h refl)
 
 -- "a bigger budget never lowers low, raises a shown high or takes one away"
@@ -160,17 +180,14 @@ module _ (values index : List ℤ) (i j B C : ℕ) (r s : ReadingNumbers) (t : R
       )
 
 -- the looks are real
-looks-are-real : (values index others entries : List ℤ) (i j B : ℕ) (r s : ReadingNumbers) → RoughTold values index i j B r → RoughTold others entries i j B s → length values ≡ length others
-    → length index ≡ length entries → map (readBy values index) (looksUsed (length values) i j B) ≡ map (readBy others entries) (looksUsed (length values) i j B) → r ≡ s
+looks-are-real : (values index others entries : List ℤ) (i j B : ℕ) (r s : ReadingNumbers) → RoughTold values index i j B r → RoughTold others entries i j B s → length values ≡ length others → length index ≡ length entries → map (readBy values index) (looksUsed (length values) i j B) ≡ map (readBy others entries) (looksUsed (length values) i j B) → r ≡ s
 looks-are-real values index others entries i j B r s t u n m e =
     t .3 .numbers
     ∙ ap readingInNumbers (point-6 .agreed values index others entries i j B (t .3 .reading) (u .3 .reading) (t .3 .reads) (u .3 .reads) n m e)
     ∙ sym (u .3 .numbers)
 
 -- as C uses it: an index is built with reply 0, whatever it held, and then read with as many looks as there are
-built-and-read : (values before after : List ℤ) (i j : ℕ) (r : ReadingNumbers) → BuildTold values before after 0 → RoughTold values after i j 18446744073709551615 r
-    → i ≤ j → j < length values → length (looks (length values) i j) ≤ 18446744073709551615
-    → (r .known ≡ 1) × (r .low ≡ r .high) × ((k : ℕ) × (i ≤ k) × (k ≤ j) × (getD values k (pos 0) ≡ r .high)) × ((k : ℕ) → i ≤ k → k ≤ j → leZ (r .high) (getD values k (pos 0)) ≡ true)
+built-and-read : (values before after : List ℤ) (i j : ℕ) (r : ReadingNumbers) → BuildTold values before after 0 → RoughTold values after i j 18446744073709551615 r → i ≤ j → j < length values → length (looks (length values) i j) ≤ 18446744073709551615 → Exact values i j r
 built-and-read values before after i j r b t l h = rough-exact values after i j 18446744073709551615 r t (built values before after 0 b refl) l h
 
 -- THE CONVERSE: no more is learnt of the function that C calls than its contract says. The references may be any

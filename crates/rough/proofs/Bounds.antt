@@ -42,7 +42,7 @@ pub under-take : (v : ℤ) (k : ℕ) (xs : List ℤ) → Under v xs → Under v 
 under-take v k xs f t h = let n = length-take k xs in rw (getD-take k xs t (pos 0) (omega (arith, n))) (f t (omega (arith, n)))
 
 -- of a part of a list
-getD-part : (a b : ℕ) (l : List ℤ) (t : ℕ) → t < b - a → getD (part a b l) t (pos 0) ≡ getD l (a + t) (pos 0)
+pub getD-part : (a b : ℕ) (l : List ℤ) (t : ℕ) → t < b - a → getD (part a b l) t (pos 0) ≡ getD l (a + t) (pos 0)
 getD-part a b l t h = getD-take (b - a) (drop a l) t (pos 0) h ∙ getD-drop a l t (pos 0)
 
 pub under-part : (v : ℤ) (a b : ℕ) (l : List ℤ) → a ≤ b → b ≤ length l → ((k : ℕ) → a ≤ k → k < b → leZ v (getD l k (pos 0)) ≡ true) → Under v (part a b l)

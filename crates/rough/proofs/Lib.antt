@@ -7,6 +7,7 @@ pub mod Readings
 pub mod Bounds
 pub mod Truth
 pub mod Listed
+pub mod Knowing
 pub mod Stages
 pub mod Bracket
 pub mod Agreement

@@ -107,14 +107,14 @@ module _ (n i j : ℕ) (l : i ≤ j) (h : j < n) where
       (r .0, r .1, omega (arith, r .2, l), e .0, e .1)
 
   -- a block is only partly inside just where it is not wholly inside
-  partly : (k : ℕ) → i ≤ k → k ≤ j → Partly n i j (k / 64) → whollyInside n i j (k / 64) ≡ false
+  pub partly : (k : ℕ) → i ≤ k → k ≤ j → Partly n i j (k / 64) → whollyInside n i j (k / 64) ≡ false
   partly k f t (m, s, e, inl b) = begins-before n i j (k / 64) (omega (arith, e, b))
   partly k f t (m, s, e, inr b) = elim (lt-or-ge (64 * (k / 64)) i) [
     | inl c ↦ begins-before n i j (k / 64) c
     | inr c ↦ ends-behind n i j (k / 64) c (omega (arith, e, b, s))
   ]
 
-  not-whole : (k : ℕ) → i ≤ k → k ≤ j → whollyInside n i j (k / 64) ≡ false → Partly n i j (k / 64)
+  pub not-whole : (k : ℕ) → i ≤ k → k ≤ j → whollyInside n i j (k / 64) ≡ false → Partly n i j (k / 64)
   not-whole k f t e = elim (lt-or-ge (64 * (k / 64)) i) [
     | inl c ↦ (64 * (k / 64), omega (arith, t, h), omega arith, inl c)
     | inr c ↦ elim (lt-or-ge (j + 1) (min (64 * (k / 64) + 64) n)) [

@@ -2,7 +2,7 @@
 use mathlib.Core.Path.{_≡_, refl, sym, ap, _∙_}
 use mathlib.Core.List.{List, [], filterMap}
 use mathlib.Core.Option.{Option, none, some}
-use Prim.Native.Nat.{ℕ, _<_, _≤_}
+use Prim.Native.Nat.{ℕ, _+_, _/_, _<_, _≤_}
 use native.Mathlib.Omega.{arith}
 use lib.IntN.{ℤ}
 use lib.ListN.{length, length-take}
@@ -16,9 +16,12 @@ use Rattle.blocks.proofs.Point.{outside-range}
 use Rattle.rough.specs.declared.Reading.{Reading}
 use Rattle.rough.specs.Looks.{Look, entryLooks, looks, looksUsed, knownFrom, highAfter, lowAfter, ToldReading, figuresAfter, refusedWith, roughReading, told}
 use Rattle.rough.specs.Promises.{ReadSays, bottom, EveryReading, Point6}
-use Rattle.rough.proofs.Shows.{length-entries}
+use Rattle.rough.proofs.Shows.{met, length-entries}
+use Rattle.rough.proofs.Budgets.{length-part}
+use Rattle.rough.proofs.Bounds.{getD-part, part-under, least-under, least-one}
 use Rattle.rough.proofs.Listed.{every-look}
-use Rattle.rough.proofs.Stages.{low-early, low-full}
+use Rattle.rough.proofs.Knowing.{high-one, high-under, high-none}
+use Rattle.rough.proofs.Stages.{low-early, low-between, low-full}
 use Rattle.rough.proofs.Bracket.{high-above, high-exact, low-below, low-rises, high-falls}
 use Rattle.rough.proofs.Agreement.{same-reading}
 
@@ -65,6 +68,22 @@ module _ (values index : List ℤ) (i j B : ℕ) (r : Reading) (d : told r ≡ r
           low = low-early values index i j l h n 0 (entries-some l) x;
         } in
         shown-figures n l h ∙ ap (λ (b : ℕ). figuresAfter values index i j (looksUsed (length values) i j b)) e ∙ none-used;
+    between = λ n l h b c v e.
+        let least : leastOf (met values index i j l h n) ≡ some v =
+        sym (ap (λ (t : ToldReading). t .low) (shown-figures n l h) ∙ low-between values index i j l h n B (omega (arith, length-entries i j, b)) c) ∙ e in
+        let o = least-one (met values index i j l h n) v least in
+        let first : i / 64 ≤ j / 64 + 1 = omega (arith, l) in
+        let few : j / 64 + 1 ≤ length index = omega (arith, n, h) in
+        let long = length-part (i / 64) (j / 64 + 1) index first few in (
+          (i / 64 + o .0, omega arith, omega (arith, o .1, long), sym (getD-part (i / 64) (j / 64 + 1) index (o .0) (omega (arith, o .1, long))) ∙ o .2),
+          λ d p q. part-under v (i / 64) (j / 64 + 1) index first few (least-under (met values index i j l h n) v least) d p (omega (arith, q)),
+        );
+    full = λ n l h b.
+        ap (λ (t : ToldReading). t .low) (shown-figures n l h) ∙ low-full values index i j l h n B b ∙ sym (ap (λ (t : ToldReading). t .high) (shown-figures n l h));
+    high = λ n l h v e.
+        let is : highAfter values index i j (looksUsed (length values) i j B) ≡ some v = sym (ap (λ (t : ToldReading). t .high) (shown-figures n l h)) ∙ e in
+        (high-one values index i j l h B v is, high-under values index i j l h B v is);
+    unknown = λ n l h e. high-none values index i j l h B (sym (ap (λ (t : ToldReading). t .high) (shown-figures n l h)) ∙ e);
     early = λ n l h b. ap (λ (t : ToldReading). t .low) (shown-figures n l h) ∙ low-early values index i j l h n B (omega (arith, length-entries i j, b));
   }
 

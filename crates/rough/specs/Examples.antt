@@ -44,7 +44,7 @@ figures used high low = record { number = 0; looks = used; high = high; low = so
 abbrev rising : List ℤ
 rising = map pos (upFrom 1000 200)
 
--- one block and a value; two blocks; and an index that was built from no take
+-- three values, which are one shorter block; and two whole blocks
 abbrev few : List ℤ
 few = pos 7 ∷ negsuc 2 ∷ pos 4 ∷ []
 
@@ -76,6 +76,9 @@ readings =
     ∷ rough rising 64 191 1 (figures 1 (some (pos 1064)) bottom)
     ∷ rough rising 64 191 2 (figures 2 (some (pos 1064)) (pos 1064))
     ∷ rough rising 0 199 4 (figures 4 (some (pos 1000)) (pos 1000))
+    -- the least of what is known, wherever it stands: of entries, and of values
+    ∷ rough (two ++ two) 0 255 2 (figures 2 (some (negsuc 8)) bottom)
+    ∷ rough (pos 7 ∷ negsuc 2 ∷ pos 4 ∷ pos 9 ∷ []) 0 2 3 (figures 3 (some (negsuc 2)) (negsuc 2))
     -- the last, shorter block, wholly inside and not
     ∷ rough rising 192 199 1 (figures 1 (some (pos 1192)) (pos 1192))
     ∷ rough rising 192 198 1 (figures 1 none (pos 1192))
@@ -87,6 +90,7 @@ readings =
     ∷ over few (pos 9 ∷ []) 0 2 1 (figures 1 (some (pos 9)) (pos 9))
     ∷ over few (pos 9 ∷ []) 0 1 1 (figures 1 none (pos 9))
     ∷ over few (pos 9 ∷ []) 0 1 2 (figures 2 (some (pos 7)) (pos 9))
+    ∷ over few (pos 9 ∷ []) 0 1 3 (figures 3 (some (negsuc 2)) (negsuc 2))
     ∷ over two (pos 0 ∷ pos 1 ∷ []) 0 127 2 (figures 2 (some (pos 0)) (pos 0))
     -- both ends of the values, −2,147,483,648 and 2,147,483,647
     ∷ rough (pos 2147483647 ∷ bottom ∷ []) 0 1 1 (figures 1 (some bottom) bottom)
@@ -134,6 +138,6 @@ orders =
 abbrev pub Gives : ReadSays → Rough → Type 0
 Gives says e = (r : Reading) → says (e .values) (e .index) (e .i) (e .j) (e .budget) r → told r ≡ e .tells
 
--- "full count 80", of the range from 10 to 150 of 200 values
+-- the full count of the range from 10 to 150 of 200 values
 abbrev pub fullCount : ℕ
 fullCount = length (looks 200 10 150)

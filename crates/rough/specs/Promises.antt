@@ -63,6 +63,11 @@ pub record EveryLook (n i j : ℕ) : Type 0 where
   -- "The order is fixed"
   pub order : InOrder (looks n i j)
 
+-- a look that makes a value of the range known: "entries of wholly inside blocks and edge values looked at"
+abbrev pub Known : (n i j : ℕ) → Look → Type 0
+Known n i j (Entry b) = Partly n i j b → ⊥
+Known n i j (Value k) = Unit {0}
+
 -- EVERY READING, over any index, built or not
 pub record EveryReading (values index : List ℤ) (i j B : ℕ) (r : Reading) : Type 0 where
   -- "Replies 14 and 15 hold here too, for B = 0 as well, with 0 looks used and neither figure shown", 15 before 14
@@ -77,6 +82,16 @@ pub record EveryReading (values index : List ℤ) (i j B : ℕ) (r : Reading) : 
   pub nothing : Fitting values index → i ≤ j → j < length values → B ≡ 0 → told r ≡ record { number = 0; looks = 0; high = none; low = some bottom }
   -- "until all entries are read": of the blocks from that of i to that of j
   pub early : Fitting values index → i ≤ j → j < length values → B < j / 64 + 1 - i / 64 → told r .low ≡ some bottom
+  -- "then the least entry": one of these blocks', and at most each of theirs
+  pub between : Fitting values index → i ≤ j → j < length values → j / 64 + 1 - i / 64 ≤ B → B < length (looks (length values) i j) → (v : ℤ) → told r .low ≡ some v
+      → ((b : ℕ) × (i / 64 ≤ b) × (b ≤ j / 64) × (getD index b (pos 0) ≡ v)) × ((b : ℕ) → i / 64 ≤ b → b ≤ j / 64 → leZ v (getD index b (pos 0)) ≡ true)
+  -- "and at the full count the high figure"
+  pub full : Fitting values index → i ≤ j → j < length values → length (looks (length values) i j) ≤ B → told r .low ≡ told r .high
+  -- "High is the least known value": one that a look made known, and at most each such; where none is shown, no look made one known
+  pub high : Fitting values index → i ≤ j → j < length values → (v : ℤ) → told r .high ≡ some v
+      → ((look : Look) × Among look (looksUsed (length values) i j B) × Known (length values) i j look × (readBy values index look ≡ v))
+      × ((look : Look) → Among look (looksUsed (length values) i j B) → Known (length values) i j look → leZ v (readBy values index look) ≡ true)
+  pub unknown : Fitting values index → i ≤ j → j < length values → told r .high ≡ none → (look : Look) → Among look (looksUsed (length values) i j B) → Known (length values) i j look → ⊥
 
 -- "OVER AN INDEX BUILT FROM THAT TAKE", where "the true one" is the least value of point 3
 pub record EveryBuilt (values : List ℤ) (i j B : ℕ) (r : Reading) : Type 0 where
