@@ -123,8 +123,8 @@ filkotar_window_answer filkotar_window_value(filkotar_window s, uint64_t *area, 
 /*
  * A stored take: an array of values, take[0] to take[length - 1], that is finished. Beside it stands its index, a second array of yours, which holds the
  * least value of each block of 64: index[0] of take[0] to take[63], index[1] of take[64] to take[127], and so on. The last block may be shorter. You build
- * the index once. With it the least value of any range and its place are found, and of a long range most values are not looked at; and a rough reading tells
- * early about where that value lies.
+ * the index once. With it the least value of any range and its place are found, and of a long range most values are not looked at. A rough reading gives a
+ * high and a low figure for that value early, and no place.
  *
  *     static int32_t take[1000], index[16];                            16 is (1000 + 63) / 64
  *     if (filkotar_build(take, 1000, index, 16) == 0) {
@@ -183,7 +183,8 @@ uint32_t filkotar_build(const int32_t *take, uint64_t length, int32_t *index, ui
 filkotar_found filkotar_search(const int32_t *take, uint64_t length, const int32_t *index, uint64_t blocks, uint64_t i, uint64_t j);
 
 /*
- * A rough reading of a range, where drawing cannot wait for a search: an upper and a lower figure for its least value, after as many looks as you allow.
+ * A rough reading of a range, where drawing cannot wait for a search: a high and a low figure for its least value, after as many looks as you allow. With the
+ * take and the index that was built above:
  *
  *     filkotar_reading r = filkotar_rough(take, 1000, index, 16, 100, 699, 10);
  *     ...                                                              r.low <= the least of take[100] to take[699] and, where r.known is 1, that <= r.high
@@ -193,11 +194,11 @@ filkotar_found filkotar_search(const int32_t *take, uint64_t length, const int32
  * only partly inside, left to right. The last block of a take, which may be shorter, is wholly inside where all values that it has are.
  */
 typedef struct {
-    uint64_t looks;  /* how many looks were used: the budget or, where there are fewer in all, all of them; with another number than 0, 0 */
+    uint64_t looks;  /* how many looks were used: the budget or, where there are fewer in all, all of them; with another number 0 */
     uint32_t number; /* 0, or why the reading was refused */
     uint32_t known;  /* 1: there is a high figure; 0: there is none */
-    int32_t high;    /* with known 1, the least value that is known to be inside the range; else 0 */
-    int32_t low;     /* with number 0, a figure that the least value of the range is not below; with another number 0 */
+    int32_t high;    /* with known 1 the high figure; else 0 */
+    int32_t low;     /* with number 0 the low figure; with another number 0 */
 } filkotar_reading;
 
 #ifdef FILKOTAR_SAME
@@ -219,20 +220,21 @@ FILKOTAR_SAME(__builtin_offsetof(filkotar_reading, low), 20);
  *     i is above j, or j is not below length    number 14
  *     any other                                 number 0
  *
- * With 15 and 14 looks, known, high and low are 0, whatever the budget. i, j and budget may be any numbers, up to UINT64_MAX.
+ * With number 15 or 14 the other four are 0, whatever the budget. i, j and budget may be any numbers, up to UINT64_MAX.
  *
  * With 0, whatever the index holds:
  *
  *     looks   the smaller of budget and the number of all looks
- *     high    the least of the entries of blocks wholly inside the range and of the values that were looked at. An entry of a block that is only partly inside
- *             does not count. Where there is none yet, known is 0
- *     low     INT32_MIN until all entries are read, then the least of them, and once all looks are used, high. So with a budget of 0 it is INT32_MIN
+ *     high    the least of what was looked at, of these: entries of blocks wholly inside the range, and values. An entry of a block that is only partly inside
+ *             does not count. Where nothing counts yet, known is 0
+ *     low     INT32_MIN until the entries of all blocks that meet the range are read, then the least of these entries, and once all looks are used, high. So with
+ *             a budget of 0 it is INT32_MIN
  *
  * The answer rests on the two lengths, on i, j and budget, and on what the looks that were used read, and on nothing else.
  *
  * With 0, and with an index that filkotar_build wrote for this take, neither of them altered since: low is never above the least of take[i] to take[j], and
- * a high figure never below it; once all looks are used both are that value. A bigger budget never gives a lower low, a higher high, or none where there was
- * one.
+ * a high figure never below it; once all looks are used both are that value. So where known is 1 and low equals high, both are. A bigger budget never gives a
+ * lower low, a higher high, or known 0 where it was 1.
  *
  * The call stays within the `length` values and the `blocks` entries, and returns. In no case is the take or the index written.
  */

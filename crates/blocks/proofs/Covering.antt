@@ -13,8 +13,8 @@ use Rattle.history.specs.Minima.{takesOver}
 use Rattle.history.proofs.Lowest.{minimum-least}
 use Rattle.blocks.specs.declared.Offset.{Offset}
 use Rattle.blocks.specs.declared.Found.{Found}
-use Rattle.blocks.specs.Takes.{minimumFrom, blockOf, blockCount, blockMinima}
-use Rattle.blocks.specs.Private.{PlaceOf, lowerOf, withLeft, withRight, blocksBefore, Covers, OfBlocks}
+use Rattle.blocks.specs.Takes.{minimumFrom, blockOf, blockCount, blocksBefore, blockMinima}
+use Rattle.blocks.specs.Private.{PlaceOf, lowerOf, withLeft, withRight, Covers, OfBlocks}
 use Rattle.blocks.proofs.Founds.{joined, shifted, handed-on}
 use Rattle.blocks.proofs.Indexes.{inBlock, Agree, agree}
 

@@ -27,10 +27,6 @@ withLeft values i a f = cond (ltb i a) (lowerOf (minimumFrom (take a values) i) 
 abbrev pub withRight : List ℤ → (a e : ℕ) → Found → Found
 withRight values a e f = cond (ltb a e) (lowerOf f (minimumFrom (take e values) a)) f
 
--- how many of the first blocks of n values end at e or before it
-abbrev pub blocksBefore : (n e : ℕ) → ℕ
-blocksBefore n e = cond (eqb e n) (blockCount n) (e / 64)
-
 -- what is found in the range from a to before e: an offset of it, whatever the index holds; over an index built from the take, its least
 pub record Covers (values index : List ℤ) (a e : ℕ) (f : Found) : Type 0 where
   pub from : a ≤ f .place .0

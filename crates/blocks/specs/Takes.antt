@@ -1,5 +1,5 @@
--- Document 02, point 3, stored takes: "a lent list of signed values numbered from 0". What is the least of a range, what an index holds, what is refused, and what a stretch is. Of the program
--- there are only declared types here: a minimum, an offset with what is found there, a refusal and a reply. In these files a take is `values`; `take n` is of lists, their first n elements.
+-- Document 02, point 3, stored takes, and of point 6 what its rough reading shares with a search: "a lent list of signed values numbered from 0". What is the least of a range, what an index holds, what is refused, and what a stretch is. Of the program
+-- there are only declared types here: a minimum, an offset with what is found there, what is known of a least value, what is due, a refusal and a reply. In these files a take is `values`; `take n` is of lists, their first n elements.
 use mathlib.Core.Bool.{cond, _||_}
 use mathlib.Core.List.{List, [], _∷_}
 use mathlib.Core.Option.{Option, none, some}
@@ -24,7 +24,7 @@ fromZero m = record { value = m .value; place = record { 0 = m .place .0 - 1 } }
 abbrev pub minimumFrom : List ℤ → ℕ → Found
 minimumFrom values i = fromZero (minimum values (record { 0 = i + 1 }))
 
--- the least of some values, where there are any, and what is known of it in the program
+-- point 6, "the least known value", "with none known": the least of some values, where there are any; and what is known of it in the program
 abbrev pub leastOf : List ℤ → Option ℤ
 leastOf [] = none
 leastOf (v ∷ vs) = some (minimumFrom (v ∷ vs) 0 .value)
@@ -44,6 +44,10 @@ blockOf values b = take 64 (drop (64 * b) values)
 
 abbrev pub blockCount : ℕ → ℕ
 blockCount n = (n + 63) / 64
+
+-- how many of the first blocks of n values end at e or before it. The last block ends where the take does
+abbrev pub blocksBefore : (n e : ℕ) → ℕ
+blocksBefore n e = cond (eqb e n) (blockCount n) (e / 64)
 
 -- "the least of each block", here of n blocks from block b on
 unfoldable pub blockMinimaFrom : (n b : ℕ) → List ℤ → List ℤ
@@ -69,7 +73,7 @@ searchRefusal n m i j = indexRefusal n m (rangeRefusal n i j)
 abbrev pub buildRefusal : (n m : ℕ) → ℕ
 buildRefusal n m = indexRefusal n m 0
 
--- a refusal that is due, by its number; 0: none is
+-- 14 and 15, of a search (points 3 and 6): the refusal that is due, by its number; 0: none is
 abbrev pub dueOf : Due → ℕ
 dueOf Due.Nothing = 0
 dueOf (Due.Refused why) = numberOf why

@@ -1,13 +1,14 @@
 // A static range minimum over blocks: document 02, point 3. A finished take, which is a lent list of values, stands beside its index, the least of each block of 64 values. One call builds
-// the index, one searches a range of the take, and one hands back a stretch of it.
+// the index, one searches a range of the take, and one hands back a stretch of it. What the rough reading of point 6 shares with these is public, too: how many blocks there are, how many end
+// before a place, the least of any values, and which refusal is due.
 ghost use mathlib.Core.Path.{_≡_};
 ghost use denote.Ref.{ptr};
 ghost use Prim.Native.Nat.{_+_, _*_, _<_, _≤_};
 ghost use lib.ListN.{length, take as front};
 ghost use Rattle.history.specs.Minima.{takesOver};
-ghost use Rattle.blocks.specs.Takes.{minimumFrom, blockOf, blockCount, searchRefusal, leastOf, figure, dueOf, told};
+ghost use Rattle.blocks.specs.Takes.{minimumFrom, blockOf, blockCount, blocksBefore, searchRefusal, leastOf, figure, dueOf, told};
 ghost use Rattle.blocks.specs.Contracts.{Builds, Searches, Stretches};
-ghost use Rattle.blocks.specs.Private.{PlaceOf, lowerOf, OfBlocks, withLeft, withRight, blocksBefore, Covers};
+ghost use Rattle.blocks.specs.Private.{PlaceOf, lowerOf, OfBlocks, withLeft, withRight, Covers};
 use history::Due;
 use history::Refusal;
 

@@ -8,7 +8,7 @@ use Rattle.rough.specs.declared.Reading.{Reading}
 use Rattle.rough.specs.Looks.{ToldReading, roughReading, told}
 use Rattle.firmware.specs.declared.readings.ReadingNumbers.{ReadingNumbers}
 
--- a figure, or 0 where none is shown; and 1 where one is shown, or 0
+-- a figure, or 0 where none is shown, as include/filkotar.h has it; and 1 where one is shown, or 0
 abbrev pub shownNumber : Option ℤ → ℤ
 shownNumber none = pos 0
 shownNumber (some v) = v

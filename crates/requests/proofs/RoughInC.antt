@@ -65,13 +65,16 @@ point-6 = point.point-6 Contract (λ values index i j B r d. d)
 abbrev plainly : ℕ → ReadingNumbers
 plainly number = record { looks = 0; number = number; known = 0; high = pos 0; low = pos 0 }
 
--- `known` is 1 just where a high figure is shown, and then it is `high`; and where a low figure is shown, it is `low`
+-- where `known` is 1 a high figure is shown, and it is `high`; where one is shown `known` is 1; and where a low figure is shown, it is `low`
 shown-high : (t : ToldReading) → readingInNumbers t .known ≡ 1 → t .high ≡ some (readingInNumbers t .high)
 shown-high t e = go (t .high) e
   where
     go : (o : Option ℤ) → knownNumber o ≡ 1 → o ≡ some (shownNumber o)
     go none e = absurd (omega (arith, e))
     go (some v) e = refl
+
+known-where-shown : (t : ToldReading) (v : ℤ) → t .high ≡ some v → (readingInNumbers t .known ≡ 1) × (readingInNumbers t .high ≡ v)
+known-where-shown t v e = (ap knownNumber e, ap shownNumber e)
 
 shown-low : (t : ToldReading) (v : ℤ) → t .low ≡ some v → readingInNumbers t .low ≡ v
 shown-low t v e = ap shownNumber e

@@ -11,7 +11,6 @@ use Rattle.blocks.specs.Takes.{searchRefusal, leastOf}
 use Rattle.rough.specs.Looks.{Look, Entry, Value, entryLooks, looks, looksUsed, knownFrom, entryFrom, ToldReading, figuresAfter, refusedWith, roughReading, told, whollyInside}
 use Rattle.rough.specs.Promises.{readBy}
 
--- THE LOOKS ARE REAL: what they make known, and the entries among them, are told from what they read
 module _ (values index others entries : List ℤ) (i j : ℕ) (long : length values ≡ length others) where
   head-of : ℤ → List ℤ → ℤ
   head-of d [] = d

@@ -11,8 +11,7 @@ use native.Mathlib.Omega.{arith}
 use lib.Dec.{leb}
 use borrow.Author.Tests.{leb-true, le-leb, lt-leb}
 use Rattle.laws.proofs.Tests.{clash, lt-or-ge}
-use Rattle.blocks.specs.Takes.{blockCount}
-use Rattle.blocks.specs.Private.{blocksBefore}
+use Rattle.blocks.specs.Takes.{blockCount, blocksBefore}
 use Rattle.blocks.proofs.Covering.{before-end, before-inside}
 use Rattle.rough.specs.Looks.{Look, Value, upFrom, whollyInside, edgeLook, valueLooks, looks}
 use Rattle.rough.proofs.Sequences.{upFrom-parts, none-kept, all-kept}

@@ -1,4 +1,5 @@
--- POINT 6, from the contract.
+-- POINT 6, from the contract: an accepted reading is the definition's figures after the looks that are used. So each clause is a law of these: of their stages, of what they make known, of both sides of the least
+-- value, and of what they read.
 use mathlib.Core.Path.{_≡_, refl, sym, ap, _∙_}
 use mathlib.Core.List.{List, [], filterMap}
 use mathlib.Core.Option.{Option, none, some}

@@ -13,8 +13,7 @@ use lib.ListN.{length, take, drop, length-append, length-take, length-drop}
 use borrow.Author.Tests.{lt-ltb, le-ltb}
 use Rattle.laws.proofs.Tests.{lt-or-ge}
 use Rattle.blocks.specs.declared.Known.{Known}
-use Rattle.blocks.specs.Takes.{leastOf, figure, blockCount}
-use Rattle.blocks.specs.Private.{blocksBefore}
+use Rattle.blocks.specs.Takes.{leastOf, figure, blockCount, blocksBefore}
 use Rattle.rough.specs.declared.Figures.{Figures}
 use Rattle.rough.specs.declared.Seen.{Seen}
 use Rattle.rough.specs.declared.Entries.{Entries}

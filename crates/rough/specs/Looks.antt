@@ -64,7 +64,7 @@ abbrev pub highAfter : (values index : List ℤ) (i j : ℕ) → List Look → O
 highAfter values index i j used = leastOf (filterMap (knownFrom values index i j) used)
 
 -- THE LOW FIGURE: "−2,147,483,648 until all entries are read, then the least entry, and at the full count the high figure". The looks used are the first so many, entries before values, so that
--- their number tells whether all entries are read; where no block is only partly inside, that is the full count at once. There always is a low figure (`Shown.low` of Promises).
+-- their number tells whether all entries are read; where no block is only partly inside, that is the full count at once. There always is a low figure (`EveryReading.low` of Promises).
 -- −2,147,483,648 is `negsuc 2147483647`
 abbrev pub lowAfter : (values index : List ℤ) (i j : ℕ) → List Look → Option ℤ
 lowAfter values index i j used =

@@ -8,8 +8,7 @@ use lib.Dec.{ltb}
 use lib.IntN.{ℤ, negsuc}
 use lib.ListN.{take, drop}
 use Rattle.history.specs.Minima.{takesOver}
-use Rattle.blocks.specs.Takes.{leastOf, figure, blockCount}
-use Rattle.blocks.specs.Private.{blocksBefore}
+use Rattle.blocks.specs.Takes.{leastOf, figure, blockCount, blocksBefore}
 use Rattle.rough.specs.declared.Seen.{Seen}
 use Rattle.rough.specs.declared.Entries.{Entries}
 use Rattle.rough.specs.declared.Cuts.{Cuts}
@@ -40,7 +39,7 @@ pub record SeesValues (values : List ℤ) (i a z e budget : ℕ) (r : Seen) : Ty
 abbrev pub Shown : Option ℤ → Type 0
 Shown o = o ≡ none → ⊥
 
--- `low_figure`: where so many looks read all entries, and so many are the full count; of the least entry and the high figure
+-- `low_figure`, of the least entry and the high figure: `entries` looks read all entries, and `full` are all looks
 abbrev pub lowBy : (budget entries full : ℕ) → (least high : Option ℤ) → Option ℤ
 lowBy budget entries full least high = cond (ltb budget entries) (some (negsuc 2147483647)) (cond (ltb budget full) least high)
 

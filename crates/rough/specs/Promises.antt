@@ -22,15 +22,16 @@ ReadSays = List ℤ → List ℤ → ℕ → ℕ → ℕ → Reading → Type 0
 abbrev pub bottom : ℤ
 bottom = negsuc 2147483647
 
+-- no value of a take is; what is said of low presupposes it
 abbrev pub NoneBelow : List ℤ → Type 0
 NoneBelow values = (k : ℕ) → k < length values → leZ bottom (getD values k (pos 0)) ≡ true
 
--- the value that a look reads
+-- "A look reads one index entry or one take value.": what it reads
 abbrev pub readBy : (values index : List ℤ) → Look → ℤ
 readBy values index (Entry b) = getD index b (pos 0)
 readBy values index (Value k) = getD values k (pos 0)
 
--- block b "meets the range": a value of the range stands in it. It is "only partly inside": so does a value of the take outside the range
+-- block b "meets the range": a value of the range stands in it. It is "only partly inside" where a value of the take that is outside the range stands in it, too
 abbrev pub Meets : (i j b : ℕ) → Type 0
 Meets i j b = (k : ℕ) × (i ≤ k) × (k ≤ j) × (k / 64 ≡ b)
 
@@ -114,6 +115,6 @@ pub record Point6 (reads : ReadSays) : Type 0 where
   pub built : (values index : List ℤ) (i j B : ℕ) (r : Reading) → reads values index i j B r → index ≡ blockMinima values → i ≤ j → j < length values → EveryBuilt values i j B r
   pub bigger : (values index : List ℤ) (i j B C : ℕ) (r s : Reading) → reads values index i j B r → reads values index i j C s → Fitting values index → i ≤ j → j < length values → B ≤ C
       → EveryBigger values index r s
-  -- the looks are real: the answer is equal for any two takes and indices of the same lengths for which the looks that are used read the same
+  -- "A look reads one index entry or one take value", and nothing else is looked at: the answer is equal for any two takes and indices of the same lengths for which the looks that are used read the same
   pub agreed : (values index others entries : List ℤ) (i j B : ℕ) (r s : Reading) → reads values index i j B r → reads others entries i j B s → length values ≡ length others
       → length index ≡ length entries → map (readBy values index) (looksUsed (length values) i j B) ≡ map (readBy others entries) (looksUsed (length values) i j B) → told r ≡ told s

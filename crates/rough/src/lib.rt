@@ -142,7 +142,7 @@ fn value_of(known: Known) -> i32
     }
 }
 
-// The low figure, where so many looks read all entries, and so many are all: the least number of 32 bits, then the least entry, then the high figure.
+// The low figure, where `entries` looks read all entries, and `full` are all looks: the least number of 32 bits, then the least entry, then the high figure.
 fn low_figure(budget: usize, entries: usize, full: usize, least: Known, high: Known) -> i32
     requires { ⌜ (entries ≤ budget → Shown (figure least)) × (full ≤ budget → Shown (figure high)) ⌝ }
     ensures { λ r. ⌜ some r ≡ lowBy budget entries full (figure least) (figure high) ⌝ }

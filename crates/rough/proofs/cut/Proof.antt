@@ -1,4 +1,4 @@
--- `rough::cut` meets its contract.
+-- `rough::cut` meets its contract: the blocks wholly inside go from the first that begins at or after i to the last that ends at or before j, and each cut is where such a block begins, or the range's end.
 use mathlib.Core.Path.{ap, _∙_}
 use Prim.Native.Nat.{ℕ, max}
 use Rattle.blocks.specs.Takes.{blockCount}
