@@ -29,7 +29,7 @@ use Rattle.blocks.specs.Examples.{Each}
 use Rattle.blocks.proofs.Tied.{Built, Searched}
 use Rattle.rough.specs.declared.Reading.{Reading}
 use Rattle.rough.specs.Looks.{Look, Entry, Value, looks, looksUsed, roughReading, told}
-use Rattle.rough.specs.Promises.{readBy, Partly, Among, Before, InOrder, Known, Point6}
+use Rattle.rough.specs.Promises.{readBy, Partly, Among, Before, InOrder, MakesKnown, Point6}
 use Rattle.rough.specs.Examples.{roughed, readings, ordered, orders, Gives, fullCount}
 use Rattle.rough.proofs.Truth.{true-stands, true-under}
 use Rattle.rough.proofs.Tied as tied
@@ -183,7 +183,7 @@ module _ (values index : List ℤ) (i j B : ℕ) (r : Reading) (q : Read values 
       none-outside b u (m, s, e, inr o) = omega (arith, u m s e .1, o)
 
   -- and one of these
-  pub rough-known : length index ≡ (length values + 63) / 64 → i ≤ j → j < length values → (v : ℤ) → told r .high ≡ some v → (look : Look) × Among look (looksUsed (length values) i j B) × Known (length values) i j look × (readBy values index look ≡ v)
+  pub rough-known : length index ≡ (length values + 63) / 64 → i ≤ j → j < length values → (v : ℤ) → told r .high ≡ some v → (look : Look) × Among look (looksUsed (length values) i j B) × MakesKnown (length values) i j look × (readBy values index look ≡ v)
   rough-known n l h v e = point-6 .reading values index i j B r q .high n l h v e .0
 
   -- "with none known the reply says so": no value was looked at, and no entry of a block wholly inside

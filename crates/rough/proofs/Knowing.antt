@@ -10,7 +10,7 @@ use lib.IntN.{ℤ, pos}
 use lib.Signed.{leZ}
 use lib.ListN.{length, getD, take}
 use Rattle.rough.specs.Looks.{Look, Entry, Value, looks, looksUsed, whollyInside, knownFrom, highAfter}
-use Rattle.rough.specs.Promises.{Partly, Among, Known, readBy}
+use Rattle.rough.specs.Promises.{Partly, Among, MakesKnown, readBy}
 use Rattle.rough.proofs.Bounds.{least-under, least-one, least-exists}
 use Rattle.rough.proofs.Listed.{every-look, partly, not-whole}
 
@@ -58,7 +58,7 @@ module _ (values index : List ℤ) (i j : ℕ) (l : i ≤ j) (h : j < length val
   known = knownFrom values index i j
 
   -- a look at the range makes a value known just where it says so
-  known-is : (look : Look) → Among look (looks n i j) → Known n i j look → known look ≡ some (readBy values index look)
+  known-is : (look : Look) → Among look (looks n i j) → MakesKnown n i j look → known look ≡ some (readBy values index look)
   known-is (Value k) m u = refl
   known-is (Entry b) m u = go (whollyInside n i j b) refl
     where
@@ -68,7 +68,7 @@ module _ (values index : List ℤ) (i j : ℕ) (l : i ≤ j) (h : j < length val
           let r = every-look n i j l h .onlyMet b m in
           absurd (u (rw (r .3) at (not-whole n i j l h (r .0) (r .1) (r .2) (ap (whollyInside n i j) (r .3) ∙ q))))
 
-  is-known : (look : Look) (x : ℤ) → Among look (looks n i j) → known look ≡ some x → Known n i j look × (readBy values index look ≡ x)
+  is-known : (look : Look) (x : ℤ) → Among look (looks n i j) → known look ≡ some x → MakesKnown n i j look × (readBy values index look ≡ x)
   is-known (Value k) x m e = (tt, Option·some-injective (getD values k (pos 0)) x e)
   is-known (Entry b) x m e = go (whollyInside n i j b) refl e
     where
@@ -84,19 +84,19 @@ module _ (values index : List ℤ) (i j : ℕ) (l : i ≤ j) (h : j < length val
     abbrev used : List Look
     used = looksUsed n i j B
 
-    pub high-one : (v : ℤ) → highAfter values index i j used ≡ some v → (look : Look) × Among look used × Known n i j look × (readBy values index look ≡ v)
+    pub high-one : (v : ℤ) → highAfter values index i j used ≡ some v → (look : Look) × Among look used × MakesKnown n i j look × (readBy values index look ≡ v)
     high-one v e =
         let o = least-one (filterMap known used) v e in
         let r = kept-of known used (o .0) (o .1) in
         let k = is-known (r .0) v (among-first (r .0) B (looks n i j) (r .1)) (r .2 ∙ ap some (o .2)) in
         (r .0, r .1, k .0, k .1)
 
-    pub high-under : (v : ℤ) → highAfter values index i j used ≡ some v → (look : Look) → Among look used → Known n i j look → leZ v (readBy values index look) ≡ true
+    pub high-under : (v : ℤ) → highAfter values index i j used ≡ some v → (look : Look) → Among look used → MakesKnown n i j look → leZ v (readBy values index look) ≡ true
     high-under v e look m u =
         let a = kept-at known used look (readBy values index look) m (known-is look (among-first look B (looks n i j) m) u) in
         ap (leZ v) (sym (a .2)) ∙ least-under (filterMap known used) v e (a .0) (a .1)
 
-    pub high-none : highAfter values index i j used ≡ none → (look : Look) → Among look used → Known n i j look → ⊥
+    pub high-none : highAfter values index i j used ≡ none → (look : Look) → Among look used → MakesKnown n i j look → ⊥
     high-none e look m u =
         let a = kept-at known used look (readBy values index look) m (known-is look (among-first look B (looks n i j) m) u) in
         let x = least-exists (filterMap known used) (omega (arith, a .1)) in

@@ -65,9 +65,9 @@ pub record EveryLook (n i j : ℕ) : Type 0 where
   pub order : InOrder (looks n i j)
 
 -- a look that makes a value of the range known: "entries of wholly inside blocks and edge values looked at"
-abbrev pub Known : (n i j : ℕ) → Look → Type 0
-Known n i j (Entry b) = Partly n i j b → ⊥
-Known n i j (Value k) = Unit {0}
+abbrev pub MakesKnown : (n i j : ℕ) → Look → Type 0
+MakesKnown n i j (Entry b) = Partly n i j b → ⊥
+MakesKnown n i j (Value k) = Unit {0}
 
 -- EVERY READING, over any index, built or not
 pub record EveryReading (values index : List ℤ) (i j B : ℕ) (r : Reading) : Type 0 where
@@ -90,9 +90,9 @@ pub record EveryReading (values index : List ℤ) (i j B : ℕ) (r : Reading) : 
   pub full : Fitting values index → i ≤ j → j < length values → length (looks (length values) i j) ≤ B → told r .low ≡ told r .high
   -- "High is the least known value": one that a look made known, and at most each such; where none is shown, no look made one known
   pub high : Fitting values index → i ≤ j → j < length values → (v : ℤ) → told r .high ≡ some v
-      → ((look : Look) × Among look (looksUsed (length values) i j B) × Known (length values) i j look × (readBy values index look ≡ v))
-      × ((look : Look) → Among look (looksUsed (length values) i j B) → Known (length values) i j look → leZ v (readBy values index look) ≡ true)
-  pub unknown : Fitting values index → i ≤ j → j < length values → told r .high ≡ none → (look : Look) → Among look (looksUsed (length values) i j B) → Known (length values) i j look → ⊥
+      → ((look : Look) × Among look (looksUsed (length values) i j B) × MakesKnown (length values) i j look × (readBy values index look ≡ v))
+      × ((look : Look) → Among look (looksUsed (length values) i j B) → MakesKnown (length values) i j look → leZ v (readBy values index look) ≡ true)
+  pub unknown : Fitting values index → i ≤ j → j < length values → told r .high ≡ none → (look : Look) → Among look (looksUsed (length values) i j B) → MakesKnown (length values) i j look → ⊥
 
 -- "OVER AN INDEX BUILT FROM THAT TAKE", where "the true one" is the least value of point 3
 pub record EveryBuilt (values : List ℤ) (i j B : ℕ) (r : Reading) : Type 0 where
