@@ -194,11 +194,11 @@ filkotar_found filkotar_search(const int32_t *take, uint64_t length, const int32
  * only partly inside, left to right. The last block of a take, which may be shorter, is wholly inside where all values that it has are.
  */
 typedef struct {
-    uint64_t looks;  /* how many looks were used: the budget or, where there are fewer in all, all of them; with another number 0 */
+    uint64_t looks;  /* how many looks were used: the budget or, where there are fewer in all, all of them; 0 where the reading was refused */
     uint32_t number; /* 0, or why the reading was refused */
     uint32_t known;  /* 1: there is a high figure; 0: there is none */
     int32_t high;    /* with known 1 the high figure; else 0 */
-    int32_t low;     /* with number 0 the low figure; with another number 0 */
+    int32_t low;     /* with number 0 the low figure; else 0 */
 } filkotar_reading;
 
 #ifdef FILKOTAR_SAME
