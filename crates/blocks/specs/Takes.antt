@@ -1,5 +1,6 @@
--- Document 02, point 3, stored takes, and of point 6 what its rough reading shares with a search: "a lent list of signed values numbered from 0". What is the least of a range, what an index holds, what is refused, and what a stretch is. Of the program
--- there are only declared types here: a minimum, an offset with what is found there, what is known of a least value, what is due, a refusal and a reply. In these files a take is `values`; `take n` is of lists, their first n elements.
+-- Document 02, point 3, stored takes: "a lent list of signed values numbered from 0". What is the least of a range, what an index holds, what is refused, and what a stretch is; with what the rough
+-- reading of point 6 shares with a search. Of the program there are only declared types here: a minimum, an offset with what is found there, what is known of a least value, what is due, a
+-- refusal and a reply. In these files a take is `values`; `take n` is of lists, their first n elements.
 use mathlib.Core.Bool.{cond, _||_}
 use mathlib.Core.List.{List, [], _∷_}
 use mathlib.Core.Option.{Option, none, some}
@@ -45,7 +46,7 @@ blockOf values b = take 64 (drop (64 * b) values)
 abbrev pub blockCount : ℕ → ℕ
 blockCount n = (n + 63) / 64
 
--- how many of the first blocks of n values end at e or before it. The last block ends where the take does
+-- how many of the blocks of n values end at e or before it, where e is at most n. The last block ends where the take does, though it may be shorter
 abbrev pub blocksBefore : (n e : ℕ) → ℕ
 blocksBefore n e = cond (eqb e n) (blockCount n) (e / 64)
 

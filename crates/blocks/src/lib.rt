@@ -211,7 +211,7 @@ fn with_right_edge(take: &[i32], a: usize, e: usize, found: Found) -> Found
     found
 }
 
-// How many blocks end at `e` or before it. The last block ends where the take does, though it may be shorter.
+// How many blocks of `n` values end at `e` or before it, where `e` is at most `n`. The last block ends where the take does, though it may be shorter.
 pub fn blocks_before(n: usize, e: usize) -> usize
     ensures { λ r. ⌜ r ≡ blocksBefore n e ⌝ }
 {

@@ -14,7 +14,8 @@ use Rattle.laws.proofs.Tests.{lt-or-ge}
 use Rattle.laws.proofs.Order.{leZ-refl, leZ-total, ltZ-leZ}
 use Rattle.history.specs.Minima.{takesOver, minimum}
 use Rattle.history.proofs.Lowest.{minimum-least}
-use Rattle.blocks.specs.Takes.{leastOf}
+use Rattle.blocks.specs.Takes.{minimumFrom, leastOf}
+use Rattle.blocks.proofs.Scanning.{least-some}
 use Rattle.rough.specs.Private.{lowerOf}
 use Rattle.rough.proofs.Budgets.{part, length-part}
 
@@ -91,5 +92,4 @@ lower-falls v (some x) = go (takesOver x v) refl
 
 -- of some values there is a least
 pub least-exists : (xs : List ℤ) → 0 < length xs → (v : ℤ) × (leastOf xs ≡ some v)
-least-exists [] h = absurd (omega (arith, h))
-least-exists (x ∷ xs) h = (minimum (x ∷ xs) (record { 0 = 1 }) .value, refl)
+least-exists xs h = (minimumFrom xs 0 .value, least-some xs h)

@@ -2,7 +2,7 @@
 -- number of looks used.
 use mathlib.Core.Path.{_≡_, sym, ap, _∙_}
 use mathlib.Core.Bool.{Bool, cond}
-use mathlib.Core.List.{List, [], _∷_, _++_, filterMap}
+use mathlib.Core.List.{List, _++_, filterMap}
 use mathlib.Core.Logic.{inl, inr}
 use mathlib.Core.Option.{Option, some, Option·none-ne-some}
 use Prim.Native.Nat.{ℕ, _+_, _*_, _-_, _/_, _<_, _≤_, min, max}
@@ -13,7 +13,8 @@ use lib.ListN.{length, take, drop, length-append, length-take, length-drop}
 use borrow.Author.Tests.{lt-ltb, le-ltb}
 use Rattle.laws.proofs.Tests.{lt-or-ge}
 use Rattle.blocks.specs.declared.Known.{Known}
-use Rattle.blocks.specs.Takes.{leastOf, figure, blockCount, blocksBefore}
+use Rattle.blocks.specs.Takes.{minimumFrom, leastOf, figure, blockCount, blocksBefore}
+use Rattle.blocks.proofs.Scanning.{least-some}
 use Rattle.rough.specs.declared.Figures.{Figures}
 use Rattle.rough.specs.declared.Seen.{Seen}
 use Rattle.rough.specs.declared.Entries.{Entries}
@@ -51,8 +52,7 @@ second-some B e v l m = omega (arith, l, m)
 
 -- of some values there is a least
 pub shown-some : (vs : List ℤ) → 0 < length vs → Shown (leastOf vs)
-shown-some [] h = absurd (omega (arith, h))
-shown-some (v ∷ vs) h = λ e. Option·none-ne-some _ (sym e)
+shown-some vs h e = Option·none-ne-some (minimumFrom vs 0 .value) (sym e ∙ least-some vs h)
 
 module _ (values index : List ℤ) (i j B : ℕ) (l : i ≤ j) (h : j < length values) (m : length index ≡ blockCount (length values)) where
   abbrev n : ℕ
