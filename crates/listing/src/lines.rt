@@ -1,9 +1,10 @@
 // The lines that `lookup` prints, each written behind the bytes that are written already, where there is room for the longest such line.
 ghost use Prim.Native.Nat.{_+_, _*_, _<_, _≤_};
+ghost use mathlib.Core.List.{_++_};
 ghost use lib.ListN.{length};
 ghost use Rattle.blocks.specs.Takes.{figure, told};
 ghost use Rattle.rough.specs.Looks.{told as toldReading};
-ghost use Rattle.text.specs.Writing.{Adds};
+ghost use Rattle.text.specs.Writing.{Adds, decimalOf};
 ghost use Rattle.listing.specs.Lines.{noTakeLine, foundText, replyText, buildLine, indexLine, searchLine, endsText, stretchLine, figureText, readingText, roughLine, setLine, endLine};
 use blocks::Found;
 use blocks::Known;
@@ -67,13 +68,21 @@ pub fn index(out: &mut [u8], used: usize, entries: &[i32]) -> usize
     put(out, written, b"\n")
 }
 
-// The line of the n-th request, a search. A running number has no more than five digits.
+// The running number of the n-th request, which has no more than five digits, and a text behind it.
+fn begin(out: &mut [u8], used: usize, n: usize, text: &[u8]) -> usize
+    requires { ⌜ (n < 100000) × (used + 5 + length (now text) ≤ length (now out)) ⌝ }
+    ensures { λ r. ⌜ Adds (now (out .entry)) used (decimalOf n ++ now (text .entry)) (now (out .exit)) r × (r ≤ used + 5 + length (now (text .entry))) ⌝ }
+{
+    let number = put_number(out, used, n as u64);
+    put(out, number, text)
+}
+
+// The line of the n-th request, a search.
 pub fn search(out: &mut [u8], used: usize, n: usize, replied: Reply) -> usize
     requires { ⌜ (n < 100000) × (used + 50 ≤ length (now out)) ⌝ }
     ensures { λ r. ⌜ Adds (now (out .entry)) used (searchLine n (told replied)) (now (out .exit)) r × (r ≤ used + 50) ⌝ }
 {
-    let number = put_number(out, used, n as u64);
-    let word = put(out, number, b" search ");
+    let word = begin(out, used, n, b" search ");
     let said = reply(out, word, replied);
     put(out, said, b"\n")
 }
@@ -95,8 +104,8 @@ pub fn stretch(out: &mut [u8], used: usize, n: usize, part: &[i32]) -> usize
     requires { ⌜ (n < 100000) × (used + 59 ≤ length (now out)) ⌝ }
     ensures { λ r. ⌜ Adds (now (out .entry)) used (stretchLine n (now (part .entry))) (now (out .exit)) r × (r ≤ used + 59) ⌝ }
 {
-    let number = put_number(out, used, n as u64);
-    let long = put_numbered(out, number, b" stretch ", part.len() as u64);
+    let word = begin(out, used, n, b" stretch ");
+    let long = put_number(out, word, part.len() as u64);
     let shown = ends(out, long, part);
     put(out, shown, b"\n")
 }
@@ -137,8 +146,7 @@ pub fn rough(out: &mut [u8], used: usize, n: usize, replied: Reading) -> usize
     requires { ⌜ (n < 100000) × (used + 59 ≤ length (now out)) ⌝ }
     ensures { λ r. ⌜ Adds (now (out .entry)) used (roughLine n (toldReading replied)) (now (out .exit)) r × (r ≤ used + 59) ⌝ }
 {
-    let number = put_number(out, used, n as u64);
-    let word = put(out, number, b" rough ");
+    let word = begin(out, used, n, b" rough ");
     let said = reading(out, word, replied);
     put(out, said, b"\n")
 }
@@ -148,8 +156,7 @@ pub fn set(out: &mut [u8], used: usize, n: usize) -> usize
     requires { ⌜ (n < 100000) × (used + 10 ≤ length (now out)) ⌝ }
     ensures { λ r. ⌜ Adds (now (out .entry)) used (setLine n) (now (out .exit)) r × (r ≤ used + 10) ⌝ }
 {
-    let number = put_number(out, used, n as u64);
-    put(out, number, b" set\n")
+    begin(out, used, n, b" set\n")
 }
 
 pub fn end(out: &mut [u8], used: usize, read: usize) -> usize
