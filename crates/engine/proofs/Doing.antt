@@ -1,6 +1,6 @@
 -- When a command's answer meets its contract, whichever command it is. It is refused by what the session and the lengths say, refused otherwise, or accepted. What is left
 -- to show of each way out is a fact about the session and, where the words are a history's, that the program takes the position for active where the history does and
--- that the words keep the history that follows. That the session then is that history's is shown here, once.
+-- that the words hold the history that follows. That the session then is that history's is shown here, once.
 use mathlib.Core.Path.{_≡_, refl, sym, ap, _∙_}
 use mathlib.Core.Bool.{Bool, true, false, false≢true}
 use mathlib.Core.List.{List}
@@ -23,7 +23,8 @@ use Rattle.history.specs.Sound.{Sound}
 use Rattle.history.proofs.Steps.{some-number, refusal-unopened, refusal-other, refused, step-refused, step-accepted}
 use Rattle.history.proofs.Following.{session-follows}
 use Rattle.engine.specs.Promises.{AfterAcceptance, Possible}
-use Rattle.engine.specs.Keeping.{Keeps, Represents}
+use Rattle.ranges.specs.Holding.{Holds}
+use Rattle.engine.specs.Keeping.{Represents}
 use Rattle.engine.specs.Contracts.{Does}
 use Rattle.engine.specs.Private.{refusedWith, acceptedWith}
 
@@ -66,17 +67,17 @@ module _ (c : Command) (s : Session) (w : List ℕ) where
   does-other z o = does-due OtherLength (λ b. refusal-other s (length w) b c z o)
 
   -- words of the opened length are the history's
-  pub own-of : (s .words ≡ 0 → ⊥) → length w ≡ s .words → {h : History} {first : List ℕ} → Represents h first s w → Keeps h first w
+  pub own-of : (s .words ≡ 0 → ⊥) → length w ≡ s .words → {h : History} {first : List ℕ} → Represents h first s w → Holds h first w
   own-of z o r =
       let e = ap (λ (x : Session). x .words) (r .session) in
       r .own (λ q. z (e ∙ q)) (o ∙ e)
 
   -- ACCEPTED, where the program takes the position for active or not, as b says, and a history says the same; it counts as many active marks as the history has then,
-  -- and the words keep that history
+  -- and the words hold that history
   module _ (b : Bool) (y : b ≡ true → Possible s c) {after : List ℕ} {r : Answer} (l : length after ≡ length w) (e : refusal s (length w) b c ≡ 0)
       (a : AfterAcceptance c s w after (r .session) (told (r .reply)))
       (f : ForEach s w (λ h first. (refusal s (length w) (isActive h c) c ≡ 0) × (told (r .reply) ≡ accept h c .tells)
-      × (countAfter (length (h .active)) c (a .counted) ≡ length (accept h c .history .active)) × Keeps (accept h c .history) first after)) where
+      × (countAfter (length (h .active)) c (a .counted) ≡ length (accept h c .history .active)) × Holds (accept h c .history) first after)) where
     pub does-accepted : Does s c w after r
     does-accepted = record {
       long = l;

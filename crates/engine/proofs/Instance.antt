@@ -19,7 +19,8 @@ use Rattle.history.proofs.Soundness.{step-sound}
 use Rattle.runs.specs.Runs.{isOwn, Call}
 use Rattle.runs.proofs.Induction.{OneCall, own-length, own-lent}
 use Rattle.engine.specs.Demand.{CommandSays, Answered}
-use Rattle.engine.specs.Keeping.{Keeps, Represents}
+use Rattle.ranges.specs.Holding.{Holds}
+use Rattle.engine.specs.Keeping.{Represents}
 use Rattle.engine.specs.Contracts.{Does}
 
 -- words that are not the opening's: 4 or 5 is due, whatever the program says of the position
@@ -36,7 +37,7 @@ module _ (says : CommandSays) (does : (s : Session) (c : Command) (lent left : L
   answer : (s : Session) (c : Call model) → Answered says s c → Answered Does s c
   answer s c (r, d, t, e) = (r, does s (c .command) (c .lent) (c .left) r d, t, e)
 
-  pub one-call : OneCall model Sound Keeps (Answered says)
+  pub one-call : OneCall model Sound Holds (Answered says)
   one-call = record {
     sound = λ h n k y. step-sound h y n k;
     opened = step-words;

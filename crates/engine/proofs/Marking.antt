@@ -1,11 +1,9 @@
 -- The ways out of a Mark on an area of the opened length. It is refused by what the standing has against it, or as full: where the session counts K active marks, and where it
--- counts more than any opening allows, which no history's session does. Else a row is spared, by a rebuild where all are in use, and the present position is appended with
--- the last value for its minimum. A table that was rebuilt for c marks ends below the words of c + 1, which the history's l has reached.
+-- counts more than any opening allows, which no history's session does. Else the present position joins the marks, with the last value for its minimum.
 use mathlib.Core.Path.{_≡_, refl, sym, ap, _∙_}
-use mathlib.Core.List.{List, [], _∷_, _++_}
+use mathlib.Core.List.{List, [], _∷_}
 use mathlib.Core.Bool.{Bool, false, cond}
-use mathlib.Core.Logic.{_⊎_, ⊎-elim}
-use Prim.Native.Nat.{ℕ, _+_, _*_, _<_, _≤_}
+use Prim.Native.Nat.{ℕ, _+_, _<_, _≤_}
 use native.Mathlib.Omega.{arith}
 use lib.ListN.{length, length-append}
 use borrow.Author.Tests.{eq-eqb, ne-eqb}
@@ -22,16 +20,11 @@ use Rattle.history.specs.declared.Refusal.the-variants.{Full}
 use Rattle.history.specs.Minima.{standsAt}
 use Rattle.history.specs.Standings.{allowing, transitionOf}
 use Rattle.history.specs.Replies.{markRefusal, refusal}
-use Rattle.history.specs.Histories.{History, presentOf, sessionOf, isActive, accept, model}
+use Rattle.history.specs.Histories.{History, presentOf, sessionOf, isActive, accept}
 use Rattle.history.specs.Sound.{Sound}
-use Rattle.history.proofs.Lowest.{minimum-new}
-use Rattle.history.proofs.Steps.{refusal-own, unmarked-only, marked-after}
-use Rattle.runs.specs.Runs.{AsLent}
-use Rattle.layout.specs.Layout.{rows, capacity}
-use Rattle.table.specs.Marks.{Above}
+use Rattle.history.proofs.Steps.{refusal-own, unmarked-only}
 use Rattle.ranges.specs.Holding.{Holds}
-use Rattle.ranges.specs.Calls.{Added, Appended, Compacted, Spared}
-use Rattle.engine.specs.Keeping.{Keeps}
+use Rattle.ranges.specs.Calls.{Marked}
 use Rattle.engine.specs.Contracts.{Does}
 use Rattle.engine.specs.Private.{refusedWith, acceptedWith}
 use Rattle.engine.proofs.Doing.{does-due, does-full, does-accepted, own-of}
@@ -65,85 +58,23 @@ module _ (s : Session) (w : List ℕ) (z : s .words ≡ 0 → ⊥) (o : length w
     mark-foreign n f = does-full s w f (none-due n false) (λ h first q r.
         omega (arith, n, q .peaked, q .limited, q .few, ap (λ (x : Session). x .active) (r .session), ap (λ (x : Session). x .limit) (r .session)))
 
-    -- a row is spared, and the present position is appended
-    module _ (v after : List ℕ) (n : s .active ≡ s .limit → ⊥) (f : s .active < 4096) (q : Spared w v (s .active))
-        (a : Appended v after (s .present) (standsAt (s .last) (s .present))) where
-      module _ (h : History) (first : List ℕ) (y : Sound h) (e : s ≡ sessionOf h) (k : Keeps h first w) where
+    -- the present position joins the marks
+    module _ (after : List ℕ) (n : s .active ≡ s .limit → ⊥) (f : s .active < 4096) (q : Marked w after (s .active) (s .present) (standsAt (s .last) (s .present))) where
+      module _ (h : History) (first : List ℕ) (y : Sound h) (e : s ≡ sessionOf h) (k : Holds h first w) where
         active-is : s .active ≡ length (h .active)
         active-is = ap (λ (x : Session). x .active) e
 
-        below-limit : length (h .active) < h .limit
-        below-limit = omega (arith, n, active-is, ap (λ (x : Session). x .limit) e, y .peaked, y .limited)
-
-        free-of : transitionOf Event.Mark (h .standing) .due ≡ Nothing
-        free-of = ap (λ (x : Session). transitionOf Event.Mark (x .standing) .due) (sym e) ∙ free
-
         unmarked : h .standing ≡ Unmarked
-        unmarked = unmarked-only (h .standing) free-of
+        unmarked = unmarked-only (h .standing) (ap (λ (x : Session). transitionOf Event.Mark (x .standing) .due) (sym e) ∙ free)
 
-        one-more : length (h .active ++ (presentOf h ∷ [])) ≡ length (h .active) + 1
-        one-more = length-append (h .active) (presentOf h ∷ [])
-
-        wide : 512 + 64 * h .limit ≤ h .words
-        wide = y .wide (λ x. z (ap (λ (x : Session). x .words) e ∙ x))
-
-        spared : (rows v < capacity v) × ((v ≡ w) ⊎ Compacted w v (h .values) (h .active))
-        spared = q .spare (h .values) (h .active) (k .holds) (sym active-is)
-            (record { some = omega arith; few = omega arith; wide = omega (arith, active-is, below-limit, wide, ap (λ (x : Session). x .words) e) })
-
-        -- what the words are when the row is spared
-        record Ready : Type 0 where
-          holds : Holds v (h .values) (h .active)
-          fresh : Above v (presentOf h)
-          below : 16 + 8 * capacity v ≤ model .bound (accept h Mark .history)
-          rest : AsLent (model .bound (accept h Mark .history)) first v
-
-        ready : Ready
-        ready = ⊎-elim
-            (λ (x : v ≡ w). record {
-              holds = rw x (k .holds);
-              fresh = rw x (k .fresh unmarked);
-              below = rw x (omega (arith, k .below));
-              rest = rw x (λ i m. k .rest i (omega arith));
-            })
-            (λ (x : Compacted w v (h .values) (h .active)). record {
-              holds = x .holds;
-              fresh = x .under (presentOf h) (k .fresh unmarked);
-              below = omega (arith, x .size, one-more);
-              rest = λ i m. x .kept i (omega (arith, one-more)) ∙ k .rest i (omega arith);
-            })
-            (spared .1)
-
-        added : Added v after (s .present) (standsAt (s .last) (s .present))
-        added = a .added (ready .holds .linked) (ready .holds .stacked) (spared .0)
-            (rw (ap (λ (x : Session). x .present) e) (ready .fresh))
-
-        held : Holds after (h .values) (h .active ++ (presentOf h ∷ []))
+        held : Holds (accept h Mark .history) first after
         held =
-            let p = ap (λ (x : Session). x .present) e in
-            rw p at
-            (a .holds (h .values) (h .active) (ready .holds) (spared .0) (rw p (ready .fresh)) (rw p (y .some unmarked)) (rw p (omega arith))
-            (rw (p, ap (λ (x : Session). x .last) e) (minimum-new (h .values))))
-
-        keeps : Keeps (accept h Mark .history) first after
-        keeps = record {
-          holds = held;
-          rest = λ i m.
-              added .kept i (λ x. omega arith) (λ x. omega (arith, ready .below, spared .0)) (λ x. omega (arith, ready .below, spared .0)) (λ x. omega (arith, ready .below, spared .0))
-              (λ b l x. omega (arith, ready .below))
-              (record {
-                height = λ x. omega arith;
-                entries = λ t y l. let c : t < capacity v = omega (arith, held .linked .fits .high, held .linked .fits .full, added .size) in
-                    ((λ x. omega (arith, ready .below)), (λ x. omega (arith, ready .below)), (λ x. omega (arith, ready .below)));
-              })
-              ∙ ready .rest i m;
-          below = rw (added .size) (ready .below);
-          fresh = λ x. absurd (let m = marked-after (h .standing) free-of in let y : _≡_ {A = ℕ} 0 1 = cc in omega arith);
-        }
+            q .holds h first y k unmarked (sym active-is) (omega (arith, n, active-is, ap (λ (x : Session). x .limit) e, y .peaked, y .limited))
+            (o ∙ ap (λ (x : Session). x .words) e) (ap (λ (x : Session). x .present) e) (ap (λ (x : Session). standsAt (x .last) (s .present)) e)
 
       pub mark-done : Does s Mark w after (acceptedWith s (s .present) (s .last) (s .active + 1) after-standing)
       mark-done =
-          does-accepted Mark s w false (λ _. tt) (a .long ∙ q .long) (none-due n false)
+          does-accepted Mark s w false (λ _. tt) (q .inside .long) (none-due n false)
           (record {
             counted = s .active + 1;
             found = standsAt (s .last) (s .present);
@@ -154,6 +85,6 @@ module _ (s : Session) (w : List ℕ) (z : s .words ≡ 0 → ⊥) (o : length w
           (λ h first y r. (
             none-due n (isActive h Mark),
             refl,
-            omega (arith, one-more h first y (r .session) (own-of Mark s w z o r), ap (λ (x : Session). x .active) (r .session)),
-            keeps h first y (r .session) (own-of Mark s w z o r),
+            omega (arith, length-append (h .active) (presentOf h ∷ []), ap (λ (x : Session). x .active) (r .session)),
+            held h first y (r .session) (own-of Mark s w z o r),
           ))

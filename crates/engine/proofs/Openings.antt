@@ -1,19 +1,16 @@
--- The two ways out of an opening. An area too short is left as it is, and the session is unopened. In another the table is emptied, so that the words hold the empty history;
--- its 62 rows end at word 512, which is where the words of an opening end that may be written.
-use mathlib.Core.Path.{_≡_, refl}
+-- The two ways out of an opening. An area too short is left as it is, and the session is unopened. In another the words hold the empty history; all that was written lies
+-- below word 512.
+use mathlib.Core.Path.{_≡_, refl, subst}
 use mathlib.Core.List.{List}
 use Prim.Native.Nat.{ℕ, _<_, _≤_}
 use native.Mathlib.Omega.{arith}
 use lib.ListN.{length}
 use Rattle.history.specs.declared.Refusal.the-variants.{AreaTooShort}
 use Rattle.history.specs.declared.Reply.the-variants.{Accepted}
-use Rattle.history.specs.Histories.{limitOf, blank, sessionOf}
+use Rattle.history.specs.Histories.{Stepped, limitOf, blank, sessionOf}
 use Rattle.history.proofs.Steps.{opening-refused, opening-accepted}
-use Rattle.runs.specs.Runs.{AsLent}
-use Rattle.layout.specs.Layout.{Room}
-use Rattle.table.specs.Calls.{Cleared}
-use Rattle.ranges.proofs.Upkeep.{cleared-holds}
-use Rattle.engine.specs.Keeping.{Keeps}
+use Rattle.ranges.specs.Holding.{Holds}
+use Rattle.ranges.specs.Calls.{Opened}
 use Rattle.engine.specs.Contracts.{Opens}
 use Rattle.engine.specs.Private.{refusedWith}
 
@@ -28,26 +25,14 @@ open-refused w l = record {
 }
 
 -- else the words hold the empty history
-pub open-done : (w v : List ℕ) (n k : ℕ) → 576 ≤ length w → n ≡ length w → k ≡ limitOf (length w) → Cleared w v 62
+pub open-done : (w v : List ℕ) (n k : ℕ) → 576 ≤ length w → n ≡ length w → k ≡ limitOf (length w) → Opened w v
     → Opens w v (record { reply = Accepted; session = sessionOf (blank n k) })
-open-done w v n k l o e q = record {
-  long = q .long;
-  tells = rw (opening-accepted (length w) l);
-  represents = rw (opening-accepted (length w) l) (record { session = rw (o, e); own = λ z _. keeps });
-  rest = rest;
-  refused = λ m. absurd (omega arith);
-}
-  where
-    room : Room w 62
-    room = record { some = omega arith; few = omega arith; wide = omega arith }
-
-    rest : AsLent 512 w v
-    rest i m = q .kept i (omega arith) (λ b n x. omega arith)
-
-    keeps : Keeps (blank (length w) (limitOf (length w))) w v
-    keeps = record {
-      holds = cleared-holds w v 62 q room;
-      rest = rest;
-      below = omega (arith, q .size room);
-      fresh = λ e. absurd (let z : _≡_ {A = ℕ} 0 1 = cc in omega arith);
+open-done w v n k l o e q =
+    let held : Holds (blank (length w) (limitOf (length w))) w v = subst (λ (x : Stepped). Holds (x .history) w v) (opening-accepted (length w) l) (q .holds l) in
+    record {
+      long = q .inside .long;
+      tells = rw (opening-accepted (length w) l);
+      represents = rw (opening-accepted (length w) l) (record { session = rw (o, e); own = λ z _. held });
+      rest = held .rest;
+      refused = λ m. absurd (omega arith);
     }

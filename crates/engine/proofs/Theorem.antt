@@ -20,7 +20,7 @@ use Rattle.runs.proofs.Induction.{own-length, run}
 use Rattle.engine.specs.Demand.{OpeningSays, CommandSays, Answered, Meets, Demand3}
 use Rattle.engine.specs.Promises.{Demand1}
 use Rattle.engine.specs.Consequences.{AllTold, OnlyFours}
-use Rattle.engine.specs.Keeping.{Keeps}
+use Rattle.ranges.specs.Holding.{Holds}
 use Rattle.engine.specs.Contracts.{Opens, Does}
 use Rattle.engine.proofs.Instance.{one-call}
 use Rattle.engine.proofs.Settling.{any-opening, settled-refused, any-number, any-acceptance}
@@ -49,10 +49,10 @@ module _ (opened : OpeningSays) (says : CommandSays) (opens : (first left : List
     (does : (s : Session) (c : Command) (lent left : List ℕ) (r : Answer) → says s c lent left r → Does s c lent left r) where
   -- from any start on the words `first` that returned the session of a sound history and left words that keep it
   pub from-start : (first left : List ℕ) (h : History) (s : Session) (cs : List (Call model)) → s ≡ sessionOf h → Sound h → AsLent (model .bound h) first left
-      → ((h .words ≡ 0 → ⊥) → Keeps h first left) → Made model (Answered says) (h .words) s left cs
+      → ((h .words ≡ 0 → ⊥) → Holds h first left) → Made model (Answered says) (h .words) s left cs
       → EachCall model (Meets (h .words) first) (h .words) left h cs
   from-start first left h s cs e y r k m =
-      run model Sound Keeps (Answered says) (one-call says does) (Meets (h .words) first) (h .words) first (meets (h .words) first) left h s cs e y refl r k m
+      run model Sound Holds (Answered says) (one-call says does) (Meets (h .words) first) (h .words) first (meets (h .words) first) left h s cs e y refl r k m
 
   pub demand-3 : Demand3 opened says
   demand-3 first left o cs q m =

@@ -1,8 +1,6 @@
 -- The contracts of the engine's private functions.
 use mathlib.Core.Path.{_≡_}
-use mathlib.Core.Bool.{false}
-use mathlib.Core.List.{List}
-use mathlib.Core.Option.{none, some}
+use mathlib.Core.Bool.{Bool, true, false}
 use Prim.Native.Nat.{ℕ, _<_, _≤_}
 use lib.IntN.{ℤ}
 use Rattle.history.specs.declared.Position.{Position}
@@ -11,11 +9,6 @@ use Rattle.history.specs.declared.Session.{Session}
 use Rattle.history.specs.declared.Answer.{Answer}
 use Rattle.history.specs.declared.Refusal.{Refusal}
 use Rattle.history.specs.declared.Reply.the-variants.{Accepted, Refused}
-use Rattle.history.specs.Histories.{among}
-use Rattle.layout.specs.declared.Held.{Held}
-use Rattle.table.specs.declared.Found.{Found}
-use Rattle.table.specs.Marks.{Linked, activeIn, Live}
-use Rattle.table.specs.Calls.{rowOf}
 
 -- `refuse`: the session comes back equal
 abbrev pub refusedWith : Session → Refusal → Answer
@@ -28,8 +21,7 @@ acceptedWith s present last active standing = record {
   session = record { words = s .words; limit = s .limit; present = present; last = last; active = active; standing = standing };
 }
 
--- `seek`: a search for an active mark at position i; none is found at 0 or after the present position
-pub record Seeks (s : Session) (w : List ℕ) (i : Position) (r : Found) : Type 0 where
-  pub sound : (g : Held) → rowOf r ≡ some g → Live w i g
-  pub possible : (g : Held) → rowOf r ≡ some g → (0 < i .0) × (i .0 ≤ s .present .0)
-  pub complete : rowOf r ≡ none → Linked w → 0 < i .0 → i .0 ≤ s .present .0 → among i (activeIn w) ≡ false
+-- `within`: position i is none before the first or after the present one
+pub record Within (s : Session) (i : Position) (r : Bool) : Type 0 where
+  pub yes : r ≡ true → (0 < i .0) × (i .0 ≤ s .present .0)
+  pub no : r ≡ false → 0 < i .0 → i .0 ≤ s .present .0 → ⊥

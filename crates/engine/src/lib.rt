@@ -9,7 +9,7 @@ ghost use Rattle.history.specs.Minima.{standsAt};
 ghost use Rattle.history.specs.Standings.{allowing, transitionOf};
 ghost use Rattle.history.specs.Histories.{limitOf};
 ghost use Rattle.engine.specs.Contracts.{Opens, Does};
-ghost use Rattle.engine.specs.Private.{refusedWith, acceptedWith, Seeks};
+ghost use Rattle.engine.specs.Private.{refusedWith, acceptedWith, Within};
 use history::Answer;
 use history::Command;
 use history::Due;
@@ -20,9 +20,7 @@ use history::Refusal;
 use history::Reply;
 use history::Session;
 use history::Standing;
-use layout::Held;
-use stack::Low;
-use table::Found;
+use ranges::Lowest;
 
 // How many marks an area of n words is opened for: K of document 01.
 fn limit_of(n: usize) -> usize
@@ -83,7 +81,7 @@ pub fn open(area: &mut [u64]) -> Answer
             },
         };
     }
-    table::clear(area, layout::FIRST_ROWS);
+    ranges::open(area);
     Answer {
         reply: Reply::Accepted,
         session: Session {
@@ -113,7 +111,7 @@ pub fn value(s: Session, area: &mut [u64], v: i32) -> Answer
         return refuse(s, Refusal::LastPosition);
     }
     let next = Position(present.0 + 1);
-    stack::lower(
+    ranges::value(
         area,
         Minimum {
             value: v,
@@ -150,8 +148,7 @@ fn mark_allowed(s: Session, area: &mut [u64], after: Standing) -> Answer
         return refuse(s, Refusal::Full);
     }
     let present = s.present;
-    ranges::make_room(area, active);
-    ranges::append(area, present, at_present(s));
+    ranges::mark(area, active, present, at_present(s));
     accept(s, present, s.last, active + 1, after)
 }
 
@@ -176,18 +173,18 @@ pub fn mark(s: Session, area: &mut [u64]) -> Answer
     }
 }
 
-// The row of the active mark at a position, which is none before the first or after the present one.
-fn seek(s: Session, area: &[u64], i: Position) -> Found
-    ensures { λ r. ⌜ Seeks s (now (area .entry)) i r ⌝ }
+// Whether a position can be an active mark at all: none is before the first or after the present one.
+fn within(s: Session, i: Position) -> bool
+    ensures { λ r. ⌜ Within s i r ⌝ }
 {
     let present = s.present;
     if i.0 == 0 {
-        return Found::Nothing;
+        return false;
     }
     if present.0 < i.0 {
-        return Found::Nothing;
+        return false;
     }
-    table::find(area, i)
+    true
 }
 
 // The range minimum since an active mark. The area is only read.
@@ -201,12 +198,11 @@ pub fn query(s: Session, area: &[u64], i: Position) -> Answer
     if area.len() != words {
         return refuse(s, Refusal::OtherLength);
     }
-    let found = seek(s, area, i);
-    let Found::At(held) = found else {
+    if !within(s, i) {
         return refuse(s, Refusal::NotActive);
-    };
-    let low = stack::minimum_of(area, held);
-    let Low::At(minimum) = low else {
+    }
+    let found = ranges::look_up(area, i);
+    let Lowest::At(minimum) = found else {
         return refuse(s, Refusal::NotActive);
     };
     Answer {
@@ -226,19 +222,20 @@ pub fn close(s: Session, area: &mut [u64], i: Position) -> Answer
     if area.len() != words {
         return refuse(s, Refusal::OtherLength);
     }
-    let found = seek(s, area, i);
-    let Found::At(held) = found else {
+    if !within(s, i) {
         return refuse(s, Refusal::NotActive);
-    };
+    }
     let active = s.active;
     if active == 0 {
+        return refuse(s, Refusal::NotActive);
+    }
+    if !ranges::close(area, i) {
         return refuse(s, Refusal::NotActive);
     }
     let present = s.present;
     let standing = s.standing;
     let transition = history::transition_of(history::close_event(present, i), standing);
     let after = transition.after;
-    table::release(area, held);
     accept(s, present, s.last, active - 1, after)
 }
 

@@ -1,6 +1,7 @@
 pub mod Choice
 pub mod Acceptances
 pub mod Lowest
+pub mod TwoParts
 pub mod Parts
 pub mod Steps
 pub mod Soundness

@@ -4,7 +4,7 @@ use mathlib.Core.Path.{_≡_, refl, sym, ap, _∙_}
 use mathlib.Core.Bool.{Bool, true, false, cond}
 use mathlib.Core.List.{List, [], _∷_, _++_, append-assoc, append-nil}
 use Prim.Native.Nat.{ℕ, _+_, _-_, _<_, _≤_}
-use native.Mathlib.Decide.{ℕ-discrete}
+use native.Mathlib.Decide.{ℕ-discrete, decLt}
 use native.Mathlib.Omega.{arith}
 use lib.IntN.{ℤ, pos}
 use lib.Signed.{leZ}
@@ -148,6 +148,17 @@ minimum-rises vs i j z o h =
     let l = minimum-least vs i z (omega arith) in
     let m = minimum-least vs j (omega arith) h in
     rw (m .stands) at (l .least (minimum vs j .place) (omega (arith, m .from)) (m .to))
+
+-- and where it is no higher either, it stands no earlier
+pub minimum-later-place : (vs : List ℤ) (i j : Position) → 0 < i .0 → i .0 ≤ j .0 → j .0 ≤ length vs
+    → minimum vs i .value ≡ minimum vs j .value → minimum vs i .place .0 ≤ minimum vs j .place .0
+minimum-later-place vs i j z o h e =
+    let l = minimum-least vs i z (omega arith) in
+    let m = minimum-least vs j (omega arith) h in
+    elim (decLt (minimum vs j .place .0) (minimum vs i .place .0)) [
+      | yes b ↦ clash (rw (sym e) (leZ-refl (minimum vs i .value))) (rw (m .stands) at (l .earliest (minimum vs j .place) (omega (arith, m .from)) b))
+      | no n ↦ omega arith
+    ]
 
 -- two positions whose minima stand at one place have one minimum
 pub minimum-shared : (vs : List ℤ) (i j : Position) → 0 < i .0 → i .0 ≤ length vs → 0 < j .0 → j .0 ≤ length vs

@@ -1,1 +1,3 @@
-pub mod Layout
+pub mod Words
+pub mod Frames
+pub mod Calls

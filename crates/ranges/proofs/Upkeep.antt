@@ -1,115 +1,136 @@
--- What the words hold after an opening, a value and a close, and what a query reads off them.
-use mathlib.Core.Path.{_≡_, ap, _∙_}
+-- What an opening and a value do to words that hold a history.
+use mathlib.Core.Path.{_≡_, refl, sym, ap, subst, _∙_}
 use mathlib.Core.List.{List, [], _∷_, _++_}
-use mathlib.Core.Option.{some}
-use Prim.Native.Nat.{ℕ, _+_, _*_, _<_}
+use Prim.Native.Nat.{ℕ, _+_, _<_, _≤_}
 use native.Mathlib.Omega.{arith}
 use lib.IntN.{ℤ}
-use lib.ListN.{length, length-append}
+use lib.ListN.{length, getD, length-append}
+use lib.Seq.{take-append-le}
 use Rattle.history.specs.declared.Position.{Position}
-use Rattle.history.specs.declared.Minimum.{Minimum}
-use Rattle.history.specs.Minima.{minimum, standsAt, next, presentAt}
-use Rattle.history.specs.Histories.{without}
-use Rattle.history.proofs.Lowest.{minimum-more, minimum-least}
+use Rattle.history.specs.declared.Command.the-variants.{Value}
+use Rattle.history.specs.declared.Standing.the-variants.{Unmarked}
+use Rattle.history.specs.Minima.{standsAt, next, presentAt}
+use Rattle.history.specs.Histories.{History, presentOf, accept, blank, model}
+use Rattle.runs.specs.Runs.{AsLent}
 use Rattle.layout.specs.declared.Held.{Held}
-use Rattle.layout.specs.Layout.{rows, height, position, Room}
-use Rattle.table.specs.Marks.{Live}
-use Rattle.table.specs.Calls.{Released, Cleared}
-use Rattle.table.proofs.Stays.{Apart, linked-apart, active-apart}
-use Rattle.stack.specs.declared.Low.{Low}
-use Rattle.stack.specs.Calls.{Lowered, minimumOf, Looked}
-use Rattle.stack.proofs.Alike.{Alike, stacked-same, rests-same}
-use Rattle.ranges.specs.Holding.{Holds, positionOf}
+use Rattle.layout.specs.declared.Place.{Place}
+use Rattle.layout.specs.declared.Lane.{Lane}
+use Rattle.layout.specs.declared.Extent.{Extent}
+use Rattle.layout.specs.Words.{Earlier, row₀, position, Put, puts, Room}
+use Rattle.layout.specs.Frames.{SameLane}
+use Rattle.layout.specs.Frames as Frames
+use Rattle.layout.proofs.Written.{each-lane, each-kind, lane-then}
+use Rattle.layout.proofs.Puts.{reading, puts-lanes}
+use Rattle.table.specs.Marks.{After}
+use Rattle.table.proofs.Kept.{active-same, position-same}
+use Rattle.stack.specs.Packing.{packed, Faithful}
+use Rattle.stack.specs.Calls.{Lowered}
+use Rattle.stack.proofs.Lowering.{lowered-within}
+use Rattle.ranges.specs.Holding.{Roles, rolesOf, marksIn, Laid, Started, Unfinished, Soon, Holds}
+use Rattle.ranges.proofs.Lanes.{lane-empty, lane-same, lane-lowered}
+use Rattle.ranges.proofs.Header.{rolesBy, roles-by, roles-put, roles-same, withActive}
+use Rattle.ranges.proofs.Moved.{laid-active}
 
--- an empty table and an empty stack hold the empty history
-pub cleared-holds : (w v : List ℕ) (c : ℕ) → Cleared w v c → Room w c → Holds v [] []
-cleared-holds w v c q r =
-    let n = q .none r in
-    let k = q .linked r in
-    record {
-      short = omega arith;
-      linked = k;
-      stacked = record {
-        fits = k .fits;
-        within = omega arith;
-        low = k .fits .high;
-        some = λ z. absurd (omega arith);
-        bottom = λ z. absurd (omega (arith, q .flat r));
-        below = λ t z. absurd (omega (arith, q .flat r));
-        rising = λ t z. absurd (omega (arith, q .flat r));
-        ordered = λ t z. absurd (omega (arith, q .flat r));
-      };
-      marks = rw n;
-      after = λ h z. absurd (omega arith);
-      before = λ h z. absurd (omega arith);
-      minima = λ h z. absurd (omega arith);
-    }
+-- words hold a history if they do so by the roles that their header gives
+pub holds-by : {h : History} {first v : List ℕ} {s : Roles} → rolesOf v ≡ s → length (h .values) ≤ 4294967295 → Laid s v (h .values) (h .peak) → Started s v → Unfinished s → Soon s 0
+    → marksIn v (s .older) ++ (marksIn v (s .younger) ++ marksIn v (s .active)) ≡ h .active
+    → (h .standing ≡ Unmarked → After v (s .active .lane) (s .active .rows) (presentOf h)) → AsLent (model .bound h) first v → Holds h first v
+holds-by {h} {first} {v} e b laid started unfinished soon marks fresh rest = record {
+  short = b;
+  laid = subst (λ (s : Roles). Laid s v (h .values) (h .peak)) (sym e) laid;
+  started = subst (λ (s : Roles). Started s v) (sym e) started;
+  unfinished = subst Unfinished (sym e) unfinished;
+  soon = subst (λ (s : Roles). Soon s 0) (sym e) soon;
+  marks = subst (λ (s : Roles). marksIn v (s .older) ++ (marksIn v (s .younger) ++ marksIn v (s .active)) ≡ h .active) (sym e) marks;
+  fresh = λ z. subst (λ (s : Roles). After v (s .active .lane) (s .active .rows) (presentOf h)) (sym e) (fresh z);
+  rest = rest;
+}
 
--- a value writes only words of the stack, and leaves the rows
-module _ {w v : List ℕ} {m : Minimum} (q : Lowered w v m) where
-  lowered-apart : Apart w v
-  lowered-apart i n e = q .kept i (record { height = n; entries = λ t _ _. e t })
+-- AN OPENING: u are the words with a header of zeros
+abbrev pub opening-puts : List Put
+opening-puts = record { at = 2; to = 15 } ∷ record { at = 8; to = 1 } ∷ record { at = 16; to = 2 } ∷ record { at = 24; to = 3 } ∷ []
 
-  pub lowered-rows : rows v ≡ rows w
-  lowered-rows = lowered-apart 0 (λ e. omega arith) (λ t. ((λ e. omega arith), (λ e. omega arith), (λ e. omega arith)))
+module _ (w u : List ℕ) (n k : ℕ) (l : 576 ≤ length w) (long : length u ≡ length w) (zero : (i : ℕ) → i < 32 → getD u i 0 ≡ 0) (same : (i : ℕ) → 32 ≤ i → getD u i 0 ≡ getD w i 0) where
+  abbrev v : List ℕ
+  v = puts opening-puts u
 
-  pub lowered-position : (h : Held) → position v h ≡ position w h
-  lowered-position h = lowered-apart (16 + 8 * h .0) (λ e. omega arith) (λ t. ((λ e. omega arith), (λ e. omega arith), (λ e. omega arith)))
+  abbrev s : Roles
+  s = rolesBy (λ j. reading opening-puts j 0)
 
--- it lowers each mark's minimum, as it does the history's
-pub lowered-holds : (w v : List ℕ) (values : List ℤ) (active : List Position) (x : ℤ) → Lowered w v (standsAt x (next (presentAt values))) → Holds w values active
-    → length values < 4294967295 → Holds v (values ++ (x ∷ [])) active
-lowered-holds w v values active x q k f =
-    let s = q .stacked (rows w) (k .stacked) in
-    record {
-      short = omega (arith, length-append values (x ∷ []));
-      linked = linked-apart w v (lowered-apart q) (q .long) (rw (lowered-rows q) (s .low)) (k .linked);
-      stacked = rw (lowered-rows q) s;
-      marks = active-apart w v (lowered-apart q) ∙ k .marks;
-      after = λ h b. rw (lowered-position q h) (k .after h (rw (lowered-rows q) at b));
-      before = λ h b. rw (lowered-position q h) (omega (arith, k .before h (rw (lowered-rows q) at b), length-append values (x ∷ [])));
-      minima = λ h b.
-          let c : h .0 < rows w = rw (lowered-rows q) at b in
-          rw (lowered-position q h, minimum-more values x (positionOf w h) (k .after h c) (k .before h c))
-          (q .lowers (rows w) (k .stacked) h _ (k .minima h c));
-    }
+  room : (c : ℕ) → c ≤ 15 → Room v c
+  room c b = record { few = omega arith; wide = omega (arith, puts-lanes opening-puts u refl .long) }
 
--- a close strikes a mark, and leaves every row's minimum
-pub released-holds : (w v : List ℕ) (values : List ℤ) (active : List Position) (g : Held) → Released w v g → Holds w values active → g .0 < rows w
-    → Holds v values (without (positionOf w g) active)
-released-holds w v values active g q k l =
-    record {
-      short = k .short;
-      linked = q .linked (k .linked);
-      stacked = rw same-rows (stacked-same same-height stack (k .stacked) (q .linked (k .linked) .fits) (omega (arith, same-rows)));
-      marks = q .active (k .linked) l ∙ ap (without (positionOf w g)) (k .marks);
-      after = λ h b. rw (same-position h) (k .after h (rw same-rows at b));
-      before = λ h b. rw (same-position h) (k .before h (rw same-rows at b));
-      minima = λ h b. rw (same-position h) (rests-same same-height stack (k .minima h (rw same-rows at b)));
-    }
-  where
-    same-rows : rows v ≡ rows w
-    same-rows = q .kept 0 (λ e. omega arith)
+  pub opened-holds : Holds (blank n k) w v
+  opened-holds =
+      holds-by (roles-put opening-puts u refl (omega arith) ∙ roles-by (λ j. reading opening-puts j (getD u j 0)) (λ j. reading opening-puts j 0) (λ j b. ap (reading opening-puts j) (zero j b)))
+      (omega arith)
+      (record {
+        apart = record { ay = λ e. omega (arith, e); ao = λ e. omega (arith, e); an = λ e. omega (arith, e); yo = λ e. omega (arith, e); yn = λ e. omega (arith, e); on = λ e. omega (arith, e) };
+        active = lane-empty v (s .active .lane) (s .active .capacity) [] (room 15 (omega arith));
+        younger = lane-empty v (s .younger .lane) (s .younger .capacity) [] (room 0 (omega arith));
+        older = lane-empty v (s .older .lane) (s .older .capacity) [] (room 0 (omega arith));
+        next = lane-empty v (s .next .lane) (s .next .capacity) [] (room 0 (omega arith));
+        order = omega arith;
+        ends = omega arith;
+        inActive = λ h b. absurd (omega arith);
+        inYounger = λ h b. absurd (omega arith);
+        inOlder = λ h b. absurd (omega arith);
+        middleRow = λ z b. absurd (omega arith);
+        whole = λ z. refl;
+        merging = record {
+          olderSome = omega arith;
+          youngerSome = omega arith;
+          inOrder = λ z. absurd (omega arith);
+          olderCovers = λ b. absurd (omega arith);
+          youngerCovers = λ b. absurd (omega arith);
+          carried = refl;
+          under = λ p a b h c. absurd (omega arith);
+          spare = λ z. absurd (omega arith);
+        };
+        roomy = omega arith;
+        activeBelow = omega arith;
+        youngerBelow = omega arith;
+        olderBelow = omega arith;
+        nextBelow = omega arith;
+        olderFew = omega arith;
+      })
+      (λ z. absurd (omega arith)) (λ z. absurd (omega arith)) (λ z. absurd (omega arith)) refl
+      (λ e. absurd (let z : _≡_ {A = ℕ} 0 1 = cc in omega arith))
+      (λ i b. puts-lanes opening-puts u refl .words i (omega arith) ∙ same i (omega arith))
 
-    same-position : (h : Held) → position v h ≡ position w h
-    same-position h = q .kept (16 + 8 * h .0) (λ e. omega arith)
+-- A VALUE: u are the words after the stack's change
+module _ (h : History) (first w u : List ℕ) (x : ℤ) (r : Place) (k : Holds h first w) (l : 32 ≤ length w) (b : length (h .values) < 4294967295)
+    (f : Faithful (standsAt x (next (presentOf h)))) (q : Lowered w u (rolesOf w .active .lane) (rolesOf w .active .height) (packed (standsAt x (next (presentOf h)))) r) where
+  abbrev roles : Roles
+  roles = rolesOf w
 
-    same-height : height v ≡ height w
-    same-height = q .kept 2 (λ e. omega arith)
+  abbrev ps : List Put
+  ps = record { at = 3; to = r .0 } ∷ []
 
-    stack : Alike w v (height w)
-    stack = record { words = λ t l j a b. q .kept (16 + 8 * t .0 + j) (λ e. omega arith) }
+  abbrev e : Extent
+  e = record { lane = roles .active .lane; rows = roles .active .rows; capacity = roles .active .capacity; height = r }
 
--- what is read for a row is the minimum of its position, which stands at a position
-pub looked-row : (w : List ℕ) (values : List ℤ) (active : List Position) (h : Held) (r : Low) → Looked w h r → Holds w values active → h .0 < rows w
-    → minimumOf r ≡ some (minimum values (positionOf w h))
-looked-row w values active h r q k l =
-    let d = minimum-least values (positionOf w h) (k .after h l) (k .before h l) in
-    q .found (rows w) (k .stacked) l (minimum values (positionOf w h)) (k .minima h l) (omega (arith, d .to, k .short))
-
--- what a query reads is the minimum of the mark's position
-pub looked-minimum : (w : List ℕ) (values : List ℤ) (active : List Position) (p : Position) (h : Held) (r : Low) → Looked w h r → Holds w values active
-    → Live w p h → minimumOf r ≡ some (minimum values p)
-looked-minimum w values active p h r q k l =
-    let e : positionOf w h ≡ p = λ i. record { 0 = l .here i } in
-    looked-row w values active h r q k (l .row) ∙ ap (λ (i : Position). some (minimum values i)) e
+  pub valued-holds : Holds (accept h (Value x) .history) first (puts ps u)
+  valued-holds =
+      let i = lowered-within q in
+      let lanes = puts-lanes ps u refl in
+      let long : length (puts ps u) ≡ length w = lanes .long ∙ i .long in
+      let stays : (j : Lane) → Frames.Other j (roles .active .lane) → SameLane j w (puts ps u) = λ j o. lane-then (i .others j o) (each-lane lanes j) in
+      let sy = stays (roles .younger .lane) (λ z. k .laid .apart .ay (sym z)) in
+      let so = stays (roles .older .lane) (λ z. k .laid .apart .ao (sym z)) in
+      let sn = stays (roles .next .lane) (λ z. k .laid .apart .an (sym z)) in
+      let more : length (h .values ++ (x ∷ [])) ≡ length (h .values) + 1 = length-append (h .values) (x ∷ []) in
+      let kept : (g : Held) → position (puts ps u) (roles .active .lane) g ≡ position w (roles .active .lane) g = λ g.
+      position-same (each-kind (each-lane lanes (roles .active .lane)) Frames.row) g ∙ position-same (i .kinds Frames.row refl) g in
+      holds-by (roles-put ps u refl (omega (arith, i .long)) ∙ (λ n. let t = roles-same w u (i .header) n in withActive t (record { lane = t .active .lane; rows = t .active .rows; capacity = t .active .capacity; height = r })))
+      (omega (arith, more))
+      (laid-active e (k .laid) long sy so sn refl refl (λ n c. take-append-le n (h .values) (x ∷ []) c) (omega (arith, more))
+      (lane-same (lanes .long) (each-lane lanes (roles .active .lane)) (lane-lowered x f q (k .laid .active)))
+      (λ g c. subst (λ (p : Position). (roles .start .0 ≤ p .0) × (p .0 < length (h .values ++ (x ∷ [])) + 1)) (sym (kept g)) (k .laid .inActive g c .0, omega (arith, more, k .laid .inActive g c .1))))
+      (λ z. (k .started z .0, kept row₀ ∙ k .started z .1))
+      (k .unfinished) (k .soon)
+      ((λ n. active-same (each-kind so Frames.row) (roles .older .rows .0) n ++ (active-same (each-kind sy Frames.row) (roles .younger .rows .0) n
+      ++ (active-same (each-kind (each-lane lanes (roles .active .lane)) Frames.row) (roles .active .rows .0) ∙ active-same (i .kinds Frames.row refl) (roles .active .rows .0)) n)) ∙ k .marks)
+      (λ z g c. subst (λ (p : Position). Earlier p (presentAt (h .values ++ (x ∷ [])))) (sym (kept g)) (omega (arith, more, k .laid .inActive g c .1)))
+      (λ j c. lanes .words j (omega arith)
+      ∙ i .beyond j (omega (arith, k .laid .activeBelow, k .laid .active .stacked .low, k .laid .active .linked .full)) ∙ k .rest j c)

@@ -1,36 +1,30 @@
--- What a look at the place whose run has a row says of the row's minimum: the stack has only one, and it is that place's entry.
-use mathlib.Core.Path.{_≡_, refl, ap, _∙_}
+-- What a look at the place whose run has a row says of the row's word: the stack has only one, and it is that place's entry.
+use mathlib.Core.Path.{refl, ap, _∙_}
 use mathlib.Core.List.{List}
 use mathlib.Core.Option.{some}
-use Prim.Native.Nat.{ℕ, _<_, _≤_}
+use Prim.Native.Nat.{ℕ}
 use native.Mathlib.Omega.{arith}
-use lib.IntN.{ℤ}
-use Rattle.history.specs.declared.Minimum.{Minimum}
-use Rattle.history.specs.Minima.{standsAt}
 use Rattle.layout.specs.declared.Held.{Held}
 use Rattle.layout.specs.declared.Place.{Place}
-use Rattle.layout.specs.declared.Header.{Header}
-use Rattle.layout.specs.Layout.{leastAt, Headed}
+use Rattle.layout.specs.declared.Lane.{Lane}
+use Rattle.layout.specs.Words.{Room}
 use Rattle.stack.specs.declared.Low.{Low}
-use Rattle.stack.specs.declared.Low.the-variants.{At}
-use Rattle.stack.specs.Entries.{least, entry, Stacked, Rests}
-use Rattle.stack.specs.Calls.{Located, Looked}
-use Rattle.stack.proofs.Places.{own-height}
-use Rattle.stack.proofs.Rows.{rests-unique}
+use Rattle.stack.specs.declared.Low.the-variants.{Nothing}
+use Rattle.stack.specs.Calls.{Entered, Looked}
+use Rattle.stack.specs.Private.{Located}
+use Rattle.stack.proofs.Runs.{covers-rests, rests-unique}
+use Rattle.stack.proofs.Rooms.{room-below}
 
-module _ {w : List ℕ} {h : Held} {p : Place} (s : Located w h p) where
-  -- the entry at the place is the row's minimum
-  its-own : {n : ℕ} {m : Minimum} → Stacked w n → h .0 < n → Rests w h m → entry w p ≡ m
-  its-own {n} k l x = rests-unique k (record { place = p; covers = s .covers n k l; same = refl }) x
+-- with no room there is nothing to look at
+pub unseen : {w : List ℕ} {k : Lane} {height : Place} {h : Held} → (Room w (height .0) → ⊥) → Looked w k height h Nothing
+unseen n = record { nothing = λ f. refl; shown = λ o l. absurd (n o); right = λ rows o s l x q. absurd (n (room-below o (s .low))) }
 
-  -- the entry is the answer
-  pub seen : {v : ℤ} → v ≡ least w p → Looked w h (At (standsAt v (record { 0 = leastAt w p })))
-  seen e = record { found = λ n k l m x f. ap some (ap (λ (v : ℤ). standsAt v (record { 0 = leastAt w p })) e ∙ its-own k l x) }
-
-  -- an entry that no position of the stream has is no answer to any question
-  pub unseen : (r : Low) → 4294967296 ≤ leastAt w p → Looked w h r
-  unseen r b = record { found = λ n k l m x f. absurd (omega (arith, ap (λ (d : Minimum). d .place .0) (its-own k l x))) }
-
-  -- nor is a place above the stack
-  pub above-all : {q : Header} (r : Low) → Headed w q → q .height ≤ p .0 → Looked w h r
-  above-all r read b = record { found = λ n k l m x f. absurd (omega (arith, own-height read k, s .covers n k l .on)) }
+-- the entry at the row's place is its word
+pub seen : {w : List ℕ} {k : Lane} {height t : Place} {h : Held} {r : Low} → Room w (height .0) → Located w k height h t → Entered w k height t r → Looked w k height h r
+seen {t = t} o p e = record {
+  nothing = λ f. e .nothing (λ o l. f o (omega arith));
+  shown = λ o l. (t, p .within l, e .shown o (p .within l));
+  right = λ rows u s l x q.
+      let c = p .covers rows u s l in
+      e .shown o (c .on) ∙ ap some (rests-unique s (covers-rests c) q);
+}

@@ -1,2 +1,4 @@
+pub mod Packing
 pub mod Entries
 pub mod Calls
+pub mod Private

@@ -1,5 +1,5 @@
 -- Positions in a list of one or none, and in two lists joined: those that are among them, and those that are left when one is struck.
-use mathlib.Core.Path.{_≡_, refl, sym}
+use mathlib.Core.Path.{_≡_, refl, sym, ap}
 use mathlib.Core.Bool.{Bool, true, false, cond, _||_, or-assoc, or-false, false≢true}
 use mathlib.Core.List.{List, [], _∷_, _++_}
 use Prim.Native.Nat.{_≤_}
@@ -48,3 +48,22 @@ choice-append false a xs ys = refl
 pub without-append : (p : Position) (xs ys : List Position) → without p (xs ++ ys) ≡ without p xs ++ without p ys
 without-append p [] ys = refl
 without-append p (a ∷ xs) ys = rw (without-append p xs ys) (choice-append (eqb (p .0) (a .0)) a (without p xs) (without p ys))
+
+-- a choice between one position more and none: what it is where the test fails, and how long it is at most
+kept-one : (t u : Bool) (q : Position) (qs rest : List Position) → t || u ≡ false → (u ≡ false → rest ≡ qs) → cond t rest (q ∷ rest) ≡ q ∷ qs
+kept-one true u q qs rest e f = absurd (false≢true (sym e))
+kept-one false u q qs rest e f = ap (λ (ps : List Position). q ∷ ps) (f e)
+
+one-at-most : (t : Bool) (q : Position) (qs rest : List Position) → length rest ≤ length qs → length (cond t rest (q ∷ rest)) ≤ length (q ∷ qs)
+one-at-most true q qs rest l = omega arith
+one-at-most false q qs rest l = omega arith
+
+-- a position that is not there is not there to strike
+pub without-none : (p : Position) (qs : List Position) → among p qs ≡ false → without p qs ≡ qs
+without-none p [] e = refl
+without-none p (q ∷ qs) e = kept-one (eqb (p .0) (q .0)) (among p qs) q qs (without p qs) e (without-none p qs)
+
+-- no more are left
+pub without-fewer : (p : Position) (qs : List Position) → length (without p qs) ≤ length qs
+without-fewer p [] = omega arith
+without-fewer p (q ∷ qs) = one-at-most (eqb (p .0) (q .0)) q qs (without p qs) (without-fewer p qs)

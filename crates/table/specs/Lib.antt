@@ -1,2 +1,3 @@
 pub mod Marks
 pub mod Calls
+pub mod Private

@@ -1,5 +1,5 @@
--- `engine::mark_allowed` meets its contract. Where the count is K the board is full; where it is more than any opening allows, the session is no history's. Else a row is spared and the
--- position appended, which is the law `mark-done`, with the minimum that `at_present` makes of the session.
+-- `engine::mark_allowed` meets its contract. Where the count is K the board is full; where it is more than any opening allows, the session is no history's. Else the
+-- position joins the marks, which is the law `mark-done`, with the minimum that `at_present` makes of the session.
 use mathlib.Core.Path.{refl}
 use native.Mathlib.Omega.{arith}
 use borrow.Author.Needs.{needs}
@@ -25,14 +25,11 @@ returns-2 c =
     let p = c .before .before .before .before .before .pre in
     rw (c .refuse2 .ensures) (mark-foreign _ _ (p .0) (p .1) _ (p .2) (omega arith) (omega arith))
 
-make-room-requires : tie.Need-make-room-requires
-make-room-requires c κs = search needs
-
 at-present-requires : tie.Need-at-present-requires
 at-present-requires c κs = search needs
 
-append-requires : tie.Need-append-requires
-append-requires c κs = search needs
+mark-requires : tie.Need-mark-requires
+mark-requires c κs = search needs
 
 add-accept : tie.Need-add-accept
 add-accept c = search needs
@@ -45,11 +42,10 @@ same-length c = search needs
 
 returns-3 : tie.Need-returns-3
 returns-3 c =
-    let a = c .before .before .before .before in
-    let r = a .before .before .before .before .before in
-    let p = r .before .before .before .before .before .before .before .pre in
+    let m = c .before .before .before .before in
+    let p = m .before .before .before .before .before .before .before .before .pre in
     does-with (c .accept .ensures) (toZ-ofZ (record { sfits = c .before .struct-told .given .1 .1 .1 .0 .1 })) (omega arith) refl
-    (mark-done _ _ (p .0) (p .1) _ (p .2) _ _ (omega arith) (omega arith) (r .make-room .ensures) (rw (a .before .at-present .ensures) at (a .append .ensures)))
+    (mark-done _ _ (p .0) (p .1) _ (p .2) _ (omega arith) (omega arith) (rw (m .before .at-present .ensures) at (m .mark .ensures)))
 
 pub mark-allowed-spec : {M : Type 1} → statement M
 mark-allowed-spec =
@@ -59,9 +55,8 @@ mark-allowed-spec =
     returns
     refuse-requires-2
     returns-2
-    make-room-requires
     at-present-requires
-    append-requires
+    mark-requires
     add-accept
     accept-requires
     same-length

@@ -1,4 +1,4 @@
--- `engine::open` meets its contract. An area too short is left as it is, which is the law `open-refused`; in another the table is emptied, which is the law `open-done`, and K is
+-- `engine::open` meets its contract. An area too short is left as it is, which is the law `open-refused`; others are opened, which is the law `open-done`, and K is
 -- what `limit_of` makes of the length.
 use native.Mathlib.Omega.{arith}
 use Rattle.engine.proofs.Openings.{open-refused, open-done}
@@ -9,8 +9,8 @@ use Rattle.engine.proofs.open.Tie as tie
 returns : tie.Need-returns
 returns c = open-refused _ (omega arith)
 
-clear-requires : tie.Need-clear-requires
-clear-requires c κs = search needs
+open-requires : tie.Need-open-requires
+open-requires c κs = search needs
 
 limit-of-requires : tie.Need-limit-of-requires
 limit-of-requires c κs = search needs
@@ -19,7 +19,7 @@ same-length : tie.Need-same-length
 same-length c = search needs
 
 returns-2 : tie.Need-returns-2
-returns-2 c = open-done _ _ _ _ (omega arith) (omega arith) (c .limit-of .ensures) (c .before .before .before .clear .ensures)
+returns-2 c = open-done _ _ _ _ (omega arith) (omega arith) (c .limit-of .ensures) (c .before .before .before .«open» .ensures)
 
 pub open-spec : {M : Type 1} → statement M
-open-spec = tie.close (tie.spec returns clear-requires limit-of-requires same-length returns-2)
+open-spec = tie.close (tie.spec returns open-requires limit-of-requires same-length returns-2)

@@ -1,4 +1,4 @@
--- `engine::value` meets its contract. The tests on the way are those of the refusals in checking order; behind them the stack has lowered every minimum by the value at the next
+-- `engine::value` meets its contract. The tests on the way are those of the refusals in checking order; behind them every minimum is lowered by the value at the next
 -- position, which is the law `value-done`. The answer's parts are the next position, the value, the count as it was and the standing after a Value.
 use mathlib.Core.Path.{refl, ap}
 use native.Mathlib.Omega.{arith}
@@ -31,8 +31,8 @@ returns-3 c = rw (c .refuse3 .ensures) (value-last _ _ _ (omega arith) (omega ar
 add-t15 : tie.Need-add-t15
 add-t15 c = search needs
 
-lower-requires : tie.Need-lower-requires
-lower-requires c κs = search needs
+value-requires : tie.Need-value-requires
+value-requires c κs = search needs
 
 transition-of-requires : tie.Need-transition-of-requires
 transition-of-requires c κs = search needs
@@ -48,7 +48,7 @@ returns-4 c =
     let l = c .before .before .before .before in
     let v = toZ-ofZ (l .before .before .before .before .before .before .before .before .before .fits .v) in
     does-with (c .accept .ensures) v refl (ap (λ (x : Transition). x .after) (c .before .transition-of .ensures))
-    (value-done _ _ _ (omega arith) (omega arith) _ (omega arith) (rw v at (l .lower .ensures)))
+    (value-done _ _ _ (omega arith) (omega arith) _ (omega arith) (rw v at (l .value .ensures)))
 
 pub value-spec : {M : Type 1} → statement M
 value-spec =
@@ -61,7 +61,7 @@ value-spec =
     refuse-requires-3
     returns-3
     add-t15
-    lower-requires
+    value-requires
     transition-of-requires
     accept-requires
     same-length

@@ -1,19 +1,24 @@
--- `stack::covering` meets its contract. The run that has the row, if one has, stays at one of the `size` places from `low` up; each turn leaves
--- about half of these places, until one is left.
+-- `stack::covering` meets its contract. The run that has the row, if one has, stays at one of the `size` places from `low` up; each turn leaves about half of these places, until
+-- one is left.
+use Prim.Native.Nat.{_+_, _*_}
 use native.Mathlib.Omega.{arith}
-use Rattle.stack.proofs.Halving.{Between, whole, turn, found}
+use lib.ListN.{getD}
+use Rattle.stack.proofs.Halving.{Sought, whole, turn, found}
 use borrow.Author.Needs.{needs}
 use Rattle.stack.proofs.covering.Statement.{statement}
 use Rattle.stack.proofs.covering.Tie as tie
 
 abbrev Inv-loop : tie.InvT-loop
-Inv-loop area h low₀ size₀ low size = Between area (h) size₀ low size
+Inv-loop area base row low₀ size₀ low size = Sought (λ n. getD area (base + 32 * n + 5) 0) row size₀ low size
 
 abbrev μ-loop : tie.MeasureT-loop
-μ-loop area h low₀ size₀ low size = size
+μ-loop area base row low₀ size₀ low size = size
 
-read-header-requires : tie.Need-read-header-requires Inv-loop μ-loop
-read-header-requires c κs = search needs
+mul-base : tie.Need-mul-base Inv-loop μ-loop
+mul-base c = search needs
+
+add-base : tie.Need-add-base Inv-loop μ-loop
+add-base c = search needs
 
 loop-holds : tie.Need-loop-holds Inv-loop μ-loop
 loop-holds c = whole _ _ _
@@ -34,13 +39,13 @@ mul-first-2 : tie.Need-mul-first-2 Inv-loop μ-loop
 mul-first-2 c = search needs
 
 shared-slice-read-first : tie.Need-shared-slice-read-first Inv-loop μ-loop
-shared-slice-read-first c = omega (arith, c .before .before .before .read-header .ensures .wide (omega arith))
+shared-slice-read-first c = search needs
 
 onward-requires : tie.Need-onward-requires Inv-loop μ-loop
 onward-requires c κs = search needs
 
 add-low : tie.Need-add-low Inv-loop μ-loop
-add-low c = record { fits = omega (arith, c .onward .ensures .0, c .before .before .before .loop .inv .within, c .before .before .before .before .read-header .ensures .high) }
+add-low c = search needs
 
 sub-size : tie.Need-sub-size Inv-loop μ-loop
 sub-size c = search needs
@@ -49,10 +54,10 @@ loop-less : tie.Need-loop-less Inv-loop μ-loop
 loop-less c = search needs
 
 loop-again : tie.Need-loop-again Inv-loop μ-loop
-loop-again c = turn (c .before .before .before .loop .inv) (omega arith) (c .onward .ensures .1) (c .onward .ensures .2)
+loop-again c = turn (c .before .before .before .loop .inv) (omega arith) (c .onward .ensures .goes) (c .onward .ensures .stays)
 
 returns : tie.Need-returns Inv-loop μ-loop
-returns c = found (c .before .before .read-header .ensures) (c .before .loop .inv) (omega arith)
+returns c = found (c .before .loop .inv) (omega arith)
 
 pub covering-spec : {M : Type 1} → statement M
 covering-spec =
@@ -60,7 +65,8 @@ covering-spec =
     (tie.spec
     Inv-loop
     μ-loop
-    read-header-requires
+    mul-base
+    add-base
     loop-holds
     add-first
     mul-first

@@ -1,89 +1,71 @@
--- `stack::taken_over` meets its contract. The value takes over every entry from place k up; a turn asks about the entry below k.
-use mathlib.Core.Path.{_≡_, sym, ap, _∙_}
-use Prim.Native.Nat.{_+_, _*_, _-_, _≤_}
+-- `stack::taken_over` meets its contract. All entries from place k up are above the word; a turn looks at the entry below k, and after a few turns what is left is searched by halves.
+use Prim.Native.Nat.{_+_, _*_, _-_}
 use native.Mathlib.Omega.{arith}
-use lib.ListN.{length}
-use borrow.Author.Needs.{needs, sfits-of}
-use mir.Syntax.{w32}
-use mir.Val.{toZ, ofZ}
-use mir.Facts.{toZ-ofZ}
-use Rattle.history.specs.Minima.{takesOver}
-use Rattle.stack.specs.Entries.{least}
-use Rattle.stack.proofs.Popping.{Popped, none, one-more, stopped, emptied}
+use lib.ListN.{getD}
+use Rattle.stack.proofs.Rooms.{room-below}
+use Rattle.stack.proofs.Parting.{Between, untold, goes, stays, parted, parted-by}
+use borrow.Author.Needs.{needs}
 use Rattle.stack.proofs.taken_over.Statement.{statement}
 use Rattle.stack.proofs.taken_over.Tie as tie
 
 abbrev Inv-loop : tie.InvT-loop
-Inv-loop area height v k₀ k = Popped area height (toZ w32 v) k
+Inv-loop area lane word base k₀ looks₀ k looks = Between (λ n. getD area (base + 32 * n + 4) 0) word k₀ 0 k
 
 abbrev μ-loop : tie.MeasureT-loop
-μ-loop area height v k₀ k = k
+μ-loop area lane word base k₀ looks₀ k looks = k
+
+mul-base : tie.Need-mul-base Inv-loop μ-loop
+mul-base c = search needs
+
+add-base : tie.Need-add-base Inv-loop μ-loop
+add-base c = search needs
 
 loop-holds : tie.Need-loop-holds Inv-loop μ-loop
-loop-holds c = none _ _ _
+loop-holds c = untold _ _ _ (omega arith)
 
--- where the function begins
-abbrev start : tie.In-loop Inv-loop μ-loop → tie.Start Inv-loop μ-loop
-start c = c .before .before .before
+sub-if1 : tie.Need-sub-if1 Inv-loop μ-loop
+sub-if1 c = search needs
 
--- the words have room for the entries that are left
-wide : (c : tie.In-loop Inv-loop μ-loop) → 16 + 8 * c .before .loop .k ≤ length (start c .args .area .now)
-wide c = omega (arith, c .before .loop .inv .within, start c .pre (omega (arith, c .before .loop .inv .within)))
+mul-if1 : tie.Need-mul-if1 Inv-loop μ-loop
+mul-if1 c = search needs
 
--- the test is of the entry below k
-asked : (c : tie.After-takes-over Inv-loop μ-loop)
-    → let l = c .before .before .before in
-    takesOver (toZ w32 (ofZ w32 (start l .args .v))) (least (start l .args .area .now) (record { 0 = l .before .loop .k - 1 }))
-    ≡ c .takes-over .result
-asked c =
-    ap (takesOver (toZ w32 (ofZ w32 (start (c .before .before .before) .args .v))))
-    (sym (toZ-ofZ (sfits-of (c .before .from-word .ok)) ∙ c .before .from-word .ensures))
-    ∙ sym (c .takes-over .ensures)
+add-if1 : tie.Need-add-if1 Inv-loop μ-loop
+add-if1 c = search needs
 
-sub-from-word : tie.Need-sub-from-word Inv-loop μ-loop
-sub-from-word c = search needs
+add-if1-2 : tie.Need-add-if1-2 Inv-loop μ-loop
+add-if1-2 c = search needs
 
-mul-from-word : tie.Need-mul-from-word Inv-loop μ-loop
-mul-from-word c = omega (arith, wide c)
+mul-if1-2 : tie.Need-mul-if1-2 Inv-loop μ-loop
+mul-if1-2 c = search needs
 
-add-from-word : tie.Need-add-from-word Inv-loop μ-loop
-add-from-word c = omega (arith, wide c)
+shared-slice-read-if1 : tie.Need-shared-slice-read-if1 Inv-loop μ-loop
+shared-slice-read-if1 c = search needs
 
-add-from-word-2 : tie.Need-add-from-word-2 Inv-loop μ-loop
-add-from-word-2 c = omega (arith, wide c)
+returns : tie.Need-returns Inv-loop μ-loop
+returns c =
+    let l = c .before .before .before .loop in
+    parted (stays (l .inv) (l .k - 1) {next = l .k} {end = l .k} (omega arith) (omega arith) (omega arith) (omega arith)) (omega arith) (omega arith)
 
-mul-from-word-2 : tie.Need-mul-from-word-2 Inv-loop μ-loop
-mul-from-word-2 c = omega (arith, wide c)
+by-halves-requires : tie.Need-by-halves-requires Inv-loop μ-loop
+by-halves-requires c κs = room-below (c .before .before .before .before .before .before .before .pre) (omega arith)
 
-shared-slice-read-from-word : tie.Need-shared-slice-read-from-word Inv-loop μ-loop
-shared-slice-read-from-word c = omega (arith, wide (c .before))
-
-from-word-requires : tie.Need-from-word-requires Inv-loop μ-loop
-from-word-requires c κs = search needs
-
-takes-over-requires : tie.Need-takes-over-requires Inv-loop μ-loop
-takes-over-requires c κs = search needs
+returns-2 : tie.Need-returns-2 Inv-loop μ-loop
+returns-2 c = parted-by (c .before .before .before .before .before .loop .inv) (c .by-halves .ensures)
 
 sub-k : tie.Need-sub-k Inv-loop μ-loop
 sub-k c = search needs
+
+sub-looks : tie.Need-sub-looks Inv-loop μ-loop
+sub-looks c = search needs
 
 loop-less : tie.Need-loop-less Inv-loop μ-loop
 loop-less c = search needs
 
 loop-again : tie.Need-loop-again Inv-loop μ-loop
-loop-again c =
-    one-more (c .before .before .before .before .before .loop .inv) (omega (arith, c .before .before .before .before .loop-test .taken))
-    (asked (c .before) ∙ c .if1 .taken)
+loop-again c = goes (c .before .before .before .before .loop .inv) _ (omega arith) (omega arith) (omega arith)
 
-returns : tie.Need-returns Inv-loop μ-loop
-returns c =
-    rw (toZ-ofZ (c .before .before .before .before .before .before .before .fits .v)) at
-    (stopped (c .before .before .before .before .before .loop .inv)
-    (asked (c .before) ∙ c .if1 .left))
-
-returns-2 : tie.Need-returns-2 Inv-loop μ-loop
-returns-2 c =
-    rw (toZ-ofZ (c .before .before .before .fits .v)) at (emptied (c .before .loop .inv) (omega arith))
+returns-3 : tie.Need-returns-3 Inv-loop μ-loop
+returns-3 c = parted (c .before .loop .inv) (omega arith) (omega arith)
 
 pub taken-over-spec : {M : Type 1} → statement M
 taken-over-spec =
@@ -91,17 +73,20 @@ taken-over-spec =
     (tie.spec
     Inv-loop
     μ-loop
+    mul-base
+    add-base
     loop-holds
-    sub-from-word
-    mul-from-word
-    add-from-word
-    add-from-word-2
-    mul-from-word-2
-    shared-slice-read-from-word
-    from-word-requires
-    takes-over-requires
+    sub-if1
+    mul-if1
+    add-if1
+    add-if1-2
+    mul-if1-2
+    shared-slice-read-if1
+    returns
+    by-halves-requires
+    returns-2
     sub-k
+    sub-looks
     loop-less
     loop-again
-    returns
-    returns-2)
+    returns-3)

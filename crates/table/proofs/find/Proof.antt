@@ -1,143 +1,127 @@
--- `table::find` meets its contract. The loop's invariant: in a table, each active mark at the position is on the chain that is left, so that
--- where the chain ends or turns upward there is none. The measure is the row that the chain is below.
-use mathlib.Core.Logic.{⊎-elim}
-use Prim.Native.Nat.{_≤_}
+-- `table::find` meets its contract: in a table an active mark is on the chain of its bucket, and so it is the chain's first row, or on the chain after
+-- that, where `further` finds it.
+use mathlib.Core.Path.{refl}
 use native.Mathlib.Omega.{arith}
-use Rattle.layout.specs.declared.Held.{Held}
-use Rattle.layout.specs.Layout.{rows, Fits}
-use Rattle.table.specs.Marks.{Chain, Linked, Live}
-use Rattle.table.proofs.Reading.{read}
-use Rattle.table.proofs.Chains.{chain-some, chain-below, chain-rest, nothing, found}
+use Rattle.layout.specs.Words.{head, Room}
+use Rattle.table.specs.Marks.{Live}
+use Rattle.table.proofs.Roomy.{roomy, narrow}
+use Rattle.table.proofs.Chains.{chain-below}
+use Rattle.table.proofs.Answers.{nothing, own-row, only-row}
+use Rattle.table.proofs.Walking.{bucketed, behind}
 use borrow.Author.Needs.{needs}
 use Rattle.table.proofs.find.Statement.{statement}
 use Rattle.table.proofs.find.Tie as tie
 
-abbrev Inv-loop : tie.InvT-loop
-Inv-loop area sought c b top₀ k₀ top k =
-    (Fits area)
-    × (top ≤ rows area)
-    × (Linked area → (h : Held) → Live area (record { 0 = sought }) h → Chain area h top k)
+-- past the test there is room
+room : (c : tie.Else1) → Room (c .before .before .before .args .area .now) (c .before .before .before .args .capacity .0)
+room c = roomy (c .before .has-room .ensures) (c .if1 .left)
 
-abbrev μ-loop : tie.MeasureT-loop
-μ-loop area sought c b top₀ k₀ top k = top
+has-room-requires : tie.Need-has-room-requires
+has-room-requires c κs = search needs
 
-read-header-requires : tie.Need-read-header-requires Inv-loop μ-loop
-read-header-requires c κs = search needs
+returns : tie.Need-returns
+returns c = nothing _ _ _ _ _ (λ t h l. narrow (c .before .has-room .ensures) (c .if1 .taken) (t .room))
 
-returns : tie.Need-returns Inv-loop μ-loop
-returns c = nothing _ _ (λ k h l. let some = c .before .read-header .ensures .found (k .fits) in omega arith)
+returns-2 : tie.Need-returns-2
+returns-2 c = nothing _ _ _ _ _ (λ t h l. omega (arith, l .row))
 
-bucket-requires : tie.Need-bucket-requires Inv-loop μ-loop
-bucket-requires c κs = search needs
+returns-3 : tie.Need-returns-3
+returns-3 c = nothing _ _ _ _ _ (λ t h l. omega (arith, t .full))
 
-mul-k : tie.Need-mul-k Inv-loop μ-loop
-mul-k c = search needs
+mul-base : tie.Need-mul-base
+mul-base c = search needs
 
-add-k : tie.Need-add-k Inv-loop μ-loop
-add-k c = search needs
+add-base : tie.Need-add-base
+add-base c = search needs
 
-add-k-2 : tie.Need-add-k-2 Inv-loop μ-loop
-add-k-2 c = search needs
+cast-sought : tie.Need-cast-sought
+cast-sought c = search needs
 
-mul-k-2 : tie.Need-mul-k-2 Inv-loop μ-loop
-mul-k-2 c = search needs
+mul-sought : tie.Need-mul-sought
+mul-sought c = search needs
 
-shared-slice-read-k : tie.Need-shared-slice-read-k Inv-loop μ-loop
-shared-slice-read-k c = let r = read (c .before .before .before .read-header .ensures) (omega arith) in omega arith
+add-sought : tie.Need-add-sought
+add-sought c = search needs
 
-loop-holds : tie.Need-loop-holds Inv-loop μ-loop
-loop-holds c =
-    let r = read (c .before .before .before .read-header .ensures) (omega arith) in
-    let e = c .before .bucket .ensures .1 in
-    (r .fits, omega arith, λ k h l. rw (e, r .used, r .size) (rw (l .here) at (k .reached h (l .row))))
+bucket-requires : tie.Need-bucket-requires
+bucket-requires c κs = let r = room (c .before .before .before .before .before .before .before) in search needs
 
-returns-2 : tie.Need-returns-2 Inv-loop μ-loop
-returns-2 c = nothing _ _ (λ k h l. let n = chain-below (c .before .before .loop .inv .2 k h l) in omega arith)
+mul-g : tie.Need-mul-g
+mul-g c = let r = room (c .before .before .before .before .before .before .before .before) in search needs
 
-sub-g : tie.Need-sub-g Inv-loop μ-loop
-sub-g c = search needs
+add-g : tie.Need-add-g
+add-g c = let r = room (c .before .before .before .before .before .before .before .before) in search needs
 
-mul-at : tie.Need-mul-at Inv-loop μ-loop
-mul-at c = search needs
+add-g-2 : tie.Need-add-g-2
+add-g-2 c = let r = room (c .before .before .before .before .before .before .before .before) in search needs
 
-add-at : tie.Need-add-at Inv-loop μ-loop
-add-at c = search needs
+mul-g-2 : tie.Need-mul-g-2
+mul-g-2 c = let r = room (c .before .before .before .before .before .before .before .before) in search needs
 
-mul-if3 : tie.Need-mul-if3 Inv-loop μ-loop
-mul-if3 c = search needs
+shared-slice-read-g : tie.Need-shared-slice-read-g
+shared-slice-read-g c = let r = room (c .before .before .before .before .before .before .before .before .before) in search needs
 
-shared-slice-read-if3 : tie.Need-shared-slice-read-if3 Inv-loop μ-loop
-shared-slice-read-if3 c = search needs
+returns-4 : tie.Need-returns-4
+returns-4 c =
+    let b = c .before .before .before .bucket in
+    nothing _ _ _ _ _ (λ t h l. omega (arith, chain-below (bucketed t l (b .result) _ (b .ensures .1) refl)))
 
-cast-if3 : tie.Need-cast-if3 Inv-loop μ-loop
-cast-if3 c = search needs
+mul-if5 : tie.Need-mul-if5
+mul-if5 c = let r = room (c .before .before .before .before .before .before .before .before .before .before .before) in search needs
 
-add-if4 : tie.Need-add-if4 Inv-loop μ-loop
-add-if4 c = search needs
+add-if5 : tie.Need-add-if5
+add-if5 c = let r = room (c .before .before .before .before .before .before .before .before .before .before .before) in search needs
 
-mul-if4 : tie.Need-mul-if4 Inv-loop μ-loop
-mul-if4 c = search needs
+add-if5-2 : tie.Need-add-if5-2
+add-if5-2 c = let r = room (c .before .before .before .before .before .before .before .before .before .before .before) in search needs
 
-shared-slice-read-if4 : tie.Need-shared-slice-read-if4 Inv-loop μ-loop
-shared-slice-read-if4 c = search needs
+mul-if5-2 : tie.Need-mul-if5-2
+mul-if5-2 c = let r = room (c .before .before .before .before .before .before .before .before .before .before .before) in search needs
 
-returns-3 : tie.Need-returns-3 Inv-loop μ-loop
-returns-3 c = found _ _ _ (record { row = search needs; here = c .before .before .if3 .taken; live = c .if4 .taken })
+shared-slice-read-if5 : tie.Need-shared-slice-read-if5
+shared-slice-read-if5 c = let r = room (c .before .before .before .before .before .before .before .before .before .before .before .before) in search needs
 
-add-k-3 : tie.Need-add-k-3 Inv-loop μ-loop
-add-k-3 c = search needs
+returns-5 : tie.Need-returns-5
+returns-5 c =
+    let a = c .before .before .before .before .before .before .before .before .before .before .before .before .before .before .before .before .args in
+    let g = head (a .area .now) (a .lane) (c .before .before .before .before .before .bucket .result) in
+    let l : Live (a .area .now) (a .lane) (a .rows) (a .p) g = record { row = omega arith; mark = omega arith } in
+    record { sound = own-row l; complete = λ t. only-row l (t .rising) }
 
-mul-k-3 : tie.Need-mul-k-3 Inv-loop μ-loop
-mul-k-3 c = search needs
+further-requires : tie.Need-further-requires
+further-requires c κs = let r = room (c .before .before .before .before .before .before .before .before .before .before .before .before .before) in (omega arith, record { few = omega arith; wide = omega arith })
 
-shared-slice-read-k-2 : tie.Need-shared-slice-read-k-2 Inv-loop μ-loop
-shared-slice-read-k-2 c = search needs
-
-loop-less : tie.Need-loop-less Inv-loop μ-loop
-loop-less c = search needs
-
-loop-again : tie.Need-loop-again Inv-loop μ-loop
-loop-again c =
-    let i = c .before .before .before .before .before .loop .inv .2 in (
-      search needs,
-      search needs,
-      λ k h l. chain-rest
-          (λ e. ⊎-elim (λ w. (rw (← e) at (l .live)) (w .2 .left)) (λ w. w .left (rw e (l .here))) (c .before .if3 .came))
-          (i k h l),
-    )
-
-returns-4 : tie.Need-returns-4 Inv-loop μ-loop
-returns-4 c = nothing _ _ (λ k h l. let n = chain-some (c .before .loop .inv .2 k h l) in omega arith)
+returns-6 : tie.Need-returns-6
+returns-6 c =
+    let e = c .further .ensures in
+    let b = c .before .before .before .before .before .before .bucket in
+    record { sound = e .sound; complete = λ t h l. e .complete (t .rising) h l (behind t l (b .result) _ (b .ensures .1) refl (λ q. omega arith)) }
 
 pub find-spec : {M : Type 1} → statement M
 find-spec =
     tie.close
     (tie.spec
-    Inv-loop
-    μ-loop
-    read-header-requires
+    has-room-requires
     returns
-    bucket-requires
-    mul-k
-    add-k
-    add-k-2
-    mul-k-2
-    shared-slice-read-k
-    loop-holds
     returns-2
-    sub-g
-    mul-at
-    add-at
-    mul-if3
-    shared-slice-read-if3
-    cast-if3
-    add-if4
-    mul-if4
-    shared-slice-read-if4
     returns-3
-    add-k-3
-    mul-k-3
-    shared-slice-read-k-2
-    loop-less
-    loop-again
-    returns-4)
+    mul-base
+    add-base
+    cast-sought
+    mul-sought
+    add-sought
+    bucket-requires
+    mul-g
+    add-g
+    add-g-2
+    mul-g-2
+    shared-slice-read-g
+    returns-4
+    mul-if5
+    add-if5
+    add-if5-2
+    mul-if5-2
+    shared-slice-read-if5
+    returns-5
+    further-requires
+    returns-6)
