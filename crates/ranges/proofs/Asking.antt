@@ -4,10 +4,10 @@ use mathlib.Core.Bool.{Bool, true, false, _||_, or-false}
 use mathlib.Core.List.{List, _++_}
 use mathlib.Core.Option.{none, some}
 use native.Mathlib.Decide.{ℕ-discrete, decLt}
-use Prim.Native.Nat.{ℕ, _+_, _<_, _≤_, min}
+use Prim.Native.Nat.{ℕ, _<_, _≤_, min}
 use native.Mathlib.Omega.{arith}
 use lib.IntN.{ℤ}
-use lib.ListN.{length, take}
+use lib.ListN.{take}
 use Rattle.history.specs.declared.Position.{Position}
 use Rattle.history.specs.Minima.{minimum}
 use Rattle.history.specs.Histories.{History, among}
@@ -24,7 +24,7 @@ use Rattle.table.proofs.Positions.{among-append}
 use Rattle.stack.specs.declared.Low.{Low}
 use Rattle.stack.specs.Packing.{packed, unpacked, Faithful}
 use Rattle.stack.specs.Calls.{wordShown, Looked}
-use Rattle.ranges.specs.Holding.{LaneHolds, Roles, rolesOf, marksIn, Holds}
+use Rattle.ranges.specs.Holding.{upcoming, origin, LaneHolds, Roles, rolesOf, marksIn, Holds}
 use Rattle.ranges.specs.Private.{Chosen, LowerOf, UpToNow}
 use Rattle.ranges.proofs.Later.{rooms, heights, older-word, older-faithful, older-whole, still-word, still-faithful}
 use Rattle.ranges.proofs.Striking.{out-of-span}
@@ -55,13 +55,13 @@ module _ (h : History) (first w : List ℕ) (p : Position) (k : Holds h first w)
       ∙ ap (λ (b : Bool). among p (marksIn w (s .older)) || b) (among-append p (marksIn w (s .younger)) (marksIn w (s .active)))
 
   pub not-older : s .middle .0 ≤ p .0 → among p (marksIn w (s .older)) ≡ false
-  not-older l = out-of-span w (s .older) p 0 (s .middle .0) (k .laid .inOlder) (λ a b. omega arith)
+  not-older l = out-of-span w (s .older) p origin (s .middle) (k .laid .inOlder) (λ a b. omega arith)
 
   pub not-younger : (s .middle .0 ≤ p .0 → p .0 < s .start .0 → ⊥) → among p (marksIn w (s .younger)) ≡ false
-  not-younger n = out-of-span w (s .younger) p (s .middle .0) (s .start .0) (k .laid .inYounger) n
+  not-younger n = out-of-span w (s .younger) p (s .middle) (s .start) (k .laid .inYounger) n
 
   pub not-active : p .0 < s .start .0 → among p (marksIn w (s .active)) ≡ false
-  not-active l = out-of-span w (s .active) p (s .start .0) (length (h .values) + 1) (k .laid .inActive) (λ a b. omega arith)
+  not-active l = out-of-span w (s .active) p (s .start) (upcoming (h .values)) (k .laid .inActive) (λ a b. omega arith)
 
   pub among-lane : (role : Role) → Where w p role → among p (h .active) ≡ among p (marksIn w (extentOf w role))
   among-lane Active (in-active l) = parts ∙ (λ i. not-older (omega (arith, k .laid .order)) i || (not-younger (λ a b. omega arith) i || among p (marksIn w (s .active))))

@@ -1,7 +1,7 @@
 -- Laid-out words in which only one lane is written, the next one or the active one.
 use mathlib.Core.Path.{_≡_, sym, ap, subst, _∙_}
 use mathlib.Core.List.{List, _++_}
-use Prim.Native.Nat.{ℕ, _+_, _<_, _≤_}
+use Prim.Native.Nat.{ℕ, _≤_}
 use native.Mathlib.Omega.{arith}
 use lib.IntN.{ℤ}
 use lib.ListN.{length, take}
@@ -10,22 +10,22 @@ use Rattle.layout.specs.declared.Held.{Held}
 use Rattle.layout.specs.declared.Place.{Place}
 use Rattle.layout.specs.declared.Lane.{Lane}
 use Rattle.layout.specs.declared.Extent.{Extent}
-use Rattle.layout.specs.Words.{row₀, position}
+use Rattle.layout.specs.Words.{Earlier, row₀, position}
 use Rattle.layout.specs.Frames.{SameLane, Other}
 use Rattle.layout.specs.Frames as Frames
 use Rattle.layout.proofs.Written.{each-kind}
 use Rattle.table.specs.Marks.{activeBelow}
 use Rattle.table.proofs.Kept.{active-same, position-same}
 use Rattle.stack.proofs.Kept.{covers-same}
-use Rattle.ranges.specs.Holding.{LaneHolds, Spans, Roles, Merging, Laid}
+use Rattle.ranges.specs.Holding.{LaneHolds, Spans, upcoming, origin, Roles, Merging, Laid}
 use Rattle.ranges.proofs.Lanes.{lane-same}
 use Rattle.ranges.proofs.Header.{withActive}
 use Rattle.ranges.proofs.Carrying.{after-same, after-was}
 
 -- a lane's positions stay with its words
-pub spans-same : {w v : List ℕ} (e : Extent) (from to : ℕ) → SameLane (e .lane) w v → Spans w e from to → Spans v e from to
+pub spans-same : {w v : List ℕ} (e : Extent) (from to : Position) → SameLane (e .lane) w v → Spans w e from to → Spans v e from to
 spans-same e from to s a h l =
-    subst (λ (p : Position). (from ≤ p .0) × (p .0 < to)) (sym (position-same (each-kind s Frames.row) h)) (a h l)
+    subst (λ (p : Position). (from .0 ≤ p .0) × Earlier p to) (sym (position-same (each-kind s Frames.row) h)) (a h l)
 
 -- and so does a position that is known
 pub first-same : {w v : List ℕ} {k : Lane} {p : Position} → SameLane k w v → position w k row₀ ≡ p → position v k row₀ ≡ p
@@ -65,9 +65,9 @@ laid-next {s} {w} {v} {values} next ol or yl yr a e sa sy so n c b m =
       next = b;
       order = a .order;
       ends = a .ends;
-      inActive = spans-same (s .active) (s .start .0) (length values + 1) sa (a .inActive);
-      inYounger = spans-same (s .younger) (s .middle .0) (s .start .0) sy (a .inYounger);
-      inOlder = spans-same (s .older) 0 (s .middle .0) so (a .inOlder);
+      inActive = spans-same (s .active) (s .start) (upcoming values) sa (a .inActive);
+      inYounger = spans-same (s .younger) (s .middle) (s .start) sy (a .inYounger);
+      inOlder = spans-same (s .older) origin (s .middle) so (a .inOlder);
       middleRow = λ z y. first-same sy (a .middleRow z y);
       whole = a .whole;
       merging = m;
@@ -99,7 +99,7 @@ merging-same {s} {w} {v} e sy so sn m =
 -- another active lane, and perhaps more values: those up to its start stay
 pub laid-active : {s : Roles} {w v : List ℕ} {values more : List ℤ} {l : ℕ} (e : Extent) → Laid s w values l → length v ≡ length w → SameLane (s .younger .lane) w v → SameLane (s .older .lane) w v
     → SameLane (s .next .lane) w v → e .lane ≡ s .active .lane → e .capacity ≡ s .active .capacity → ((n : ℕ) → n ≤ length values → take n more ≡ take n values) → length values ≤ length more
-    → LaneHolds v e more → Spans v e (s .start .0) (length more + 1) → Laid (withActive s e) v more l
+    → LaneHolds v e more → Spans v e (s .start) (upcoming more) → Laid (withActive s e) v more l
 laid-active {s} {w} {v} {values} {more} e a q sy so sn n c t b h z =
     let start : take (s .start .0) values ≡ take (s .start .0) more = sym (t (s .start .0) (a .ends)) in
     let middle : take (s .middle .0) values ≡ take (s .middle .0) more = sym (t (s .middle .0) (omega (arith, a .order, a .ends))) in
@@ -119,8 +119,8 @@ laid-active {s} {w} {v} {values} {more} e a q sy so sn n c t b h z =
       order = a .order;
       ends = omega (arith, a .ends);
       inActive = z;
-      inYounger = spans-same (s .younger) (s .middle .0) (s .start .0) sy (a .inYounger);
-      inOlder = spans-same (s .older) 0 (s .middle .0) so (a .inOlder);
+      inYounger = spans-same (s .younger) (s .middle) (s .start) sy (a .inYounger);
+      inOlder = spans-same (s .older) origin (s .middle) so (a .inOlder);
       middleRow = λ z₁ y. first-same sy (a .middleRow z₁ y);
       whole = a .whole;
       merging = merging-same e sy so sn (a .merging);

@@ -2,7 +2,7 @@
 use mathlib.Core.Path.{_≡_, refl, sym, ap, subst, _∙_}
 use mathlib.Core.Bool.{Bool, false, _||_}
 use mathlib.Core.List.{List, _++_}
-use Prim.Native.Nat.{ℕ, _+_, _<_, _≤_}
+use Prim.Native.Nat.{ℕ, _+_, _≤_}
 use native.Mathlib.Omega.{arith}
 use lib.IntN.{ℤ}
 use lib.ListN.{length, take, length-append}
@@ -21,7 +21,7 @@ use Rattle.table.proofs.Active.{among-live, live-position, below-split}
 use Rattle.table.proofs.Positions.{among-append, without-append, without-none, without-fewer}
 use Rattle.table.proofs.Closing.{release-within, release-below, release-position}
 use Rattle.stack.proofs.Kept.{covers-same}
-use Rattle.ranges.specs.Holding.{LaneHolds, Spans, Roles, marksIn, marksBefore, Laid}
+use Rattle.ranges.specs.Holding.{LaneHolds, Spans, upcoming, origin, Roles, marksIn, marksBefore, Laid}
 use Rattle.ranges.proofs.Lanes.{room-less, lane-same, lane-released}
 
 -- POSITION p IS STRUCK FROM A LANE: nothing else of it changes
@@ -79,7 +79,7 @@ struck-sooner {p = p} l s a = record {
 }
 
 -- a position outside a lane's span is not among its marks
-pub out-of-span : (w : List ℕ) (e : Extent) (p : Position) (from to : ℕ) → Spans w e from to → (from ≤ p .0 → p .0 < to → ⊥) → among p (marksIn w e) ≡ false
+pub out-of-span : (w : List ℕ) (e : Extent) (p from to : Position) → Spans w e from to → (from .0 ≤ p .0 → Earlier p to → ⊥) → among p (marksIn w e) ≡ false
 out-of-span w e p from to s n = refuted (among p (marksIn w e)) (λ t.
     let m = among-live w (e .lane) (e .rows) p t in
     let here : position w (e .lane) (m .0) .0 ≡ p .0 = ap (λ (q : Position). q .0) (live-position w (e .lane) (e .rows) p (m .0) (m .1)) in
@@ -100,8 +100,8 @@ fewer {w} {v} {e} {p} a h l =
 -- FROM EVERY LANE
 module _ {s : Roles} {w v : List ℕ} {values : List ℤ} {l : ℕ} {p : Position} (a : Laid s w values l) (sa : Struck w v (s .active) p) (sy : Struck w v (s .younger) p) (so : Struck w v (s .older) p)
     (sn : Struck w v (s .next) p) where
-  spans : (e : Extent) (from to : ℕ) → Struck w v e p → Spans w e from to → Spans v e from to
-  spans e from to t b h c = subst (λ (q : Position). (from ≤ q .0) × (q .0 < to)) (sym (t .positions h)) (b h c)
+  spans : (e : Extent) (from to : Position) → Struck w v e p → Spans w e from to → Spans v e from to
+  spans e from to t b h c = subst (λ (q : Position). (from .0 ≤ q .0) × Earlier q to) (sym (t .positions h)) (b h c)
 
   was : {e : Extent} {rows : Held} {q : Position} → Struck w v e p → After v (e .lane) rows q → After w (e .lane) rows q
   was {q = q} t b h c = subst (λ (i : Position). Earlier i q) (t .positions h) (b h c)
@@ -115,9 +115,9 @@ module _ {s : Roles} {w v : List ℕ} {values : List ℤ} {l : ℕ} {p : Positio
     next = sn .holds (take (s .start .0) values) (a .next);
     order = a .order;
     ends = a .ends;
-    inActive = spans (s .active) (s .start .0) (length values + 1) sa (a .inActive);
-    inYounger = spans (s .younger) (s .middle .0) (s .start .0) sy (a .inYounger);
-    inOlder = spans (s .older) 0 (s .middle .0) so (a .inOlder);
+    inActive = spans (s .active) (s .start) (upcoming values) sa (a .inActive);
+    inYounger = spans (s .younger) (s .middle) (s .start) sy (a .inYounger);
+    inOlder = spans (s .older) origin (s .middle) so (a .inOlder);
     middleRow = λ z b. sy .positions row₀ ∙ a .middleRow z b;
     whole = a .whole;
     merging = record {

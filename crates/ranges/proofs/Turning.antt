@@ -17,7 +17,7 @@ use Rattle.table.specs.Marks.{After, activeBelow}
 use Rattle.table.proofs.Kept.{active-same}
 use Rattle.stack.proofs.Kept.{covers-same}
 use Rattle.stack.proofs.Runs.{first-covers}
-use Rattle.ranges.specs.Holding.{LaneHolds, Roles, marksIn, Laid, Started}
+use Rattle.ranges.specs.Holding.{upcoming, origin, LaneHolds, Roles, marksIn, Laid, Started}
 use Rattle.ranges.proofs.Lanes.{emptied, lane-empty, lane-same, room-same}
 use Rattle.ranges.proofs.Moved.{spans-same, first-same}
 
@@ -68,9 +68,9 @@ module _ {s : Roles} {w v : List ℕ} {values : List ℤ} {l : ℕ} (a : Laid s 
     next = lane-empty v (s .older .lane) (s .next .capacity) (take (s .start .0) values) (room-same (same .long) (a .next .linked .room));
     order = omega arith;
     ends = a .ends;
-    inActive = spans-same (s .active) (s .start .0) (length values + 1) (lane (s .active .lane)) (a .inActive);
+    inActive = spans-same (s .active) (s .start) (upcoming values) (lane (s .active .lane)) (a .inActive);
     inYounger = λ h b. absurd (omega arith);
-    inOlder = spans-same (s .next) 0 (s .start .0) (lane (s .next .lane)) (λ h b. (omega arith, before-start h b));
+    inOlder = spans-same (s .next) origin (s .start) (lane (s .next .lane)) (λ h b. (omega arith, before-start h b));
     middleRow = λ z b. absurd (omega arith);
     whole = λ z. refl;
     merging = record {
@@ -143,8 +143,8 @@ module _ {s : Roles} {w v : List ℕ} {values : List ℤ} {l m c : ℕ} (p : Pos
     order = omega (arith, a .ends);
     ends = omega arith;
     inActive = λ h b. absurd (omega arith);
-    inYounger = spans-same (s .active) (s .start .0) (p .0) (lane′ (s .active .lane)) (λ h b. (a .inActive h b .0, fresh h b));
-    inOlder = spans-same (s .older) 0 (s .start .0) (lane′ (s .older .lane)) (λ h b. (omega arith, omega (arith, a .inOlder h b, ap (λ (q : Position). q .0) meets)));
+    inYounger = spans-same (s .active) (s .start) p (lane′ (s .active .lane)) (λ h b. (a .inActive h b .0, fresh h b));
+    inOlder = spans-same (s .older) origin (s .start) (lane′ (s .older .lane)) (λ h b. (omega arith, omega (arith, a .inOlder h b, ap (λ (q : Position). q .0) meets)));
     middleRow = λ z b. first-same (lane′ (s .active .lane)) (started z .1);
     whole = λ z. absurd (omega (arith, a .roomy));
     merging = record {

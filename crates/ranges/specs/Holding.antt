@@ -7,7 +7,7 @@ use lib.IntN.{ℤ}
 use lib.ListN.{length, take}
 use Rattle.history.specs.declared.Position.{Position}
 use Rattle.history.specs.declared.Standing.the-variants.{Unmarked}
-use Rattle.history.specs.Minima.{minimum}
+use Rattle.history.specs.Minima.{next, presentAt, minimum}
 use Rattle.history.specs.Histories.{History, presentOf, model}
 use Rattle.runs.specs.Runs.{AsLent}
 use Rattle.layout.specs.declared.Held.{Held}
@@ -15,7 +15,7 @@ use Rattle.layout.specs.declared.Place.{Place}
 use Rattle.layout.specs.declared.Lane.{Lane}
 use Rattle.layout.specs.declared.Extent.{Extent}
 use Rattle.layout.specs.declared.Role.the-variants.{Active, Younger, Older, Next}
-use Rattle.layout.specs.Words.{Lower, row₀, position, extentOf, startOf, leftOf, runOf}
+use Rattle.layout.specs.Words.{Earlier, Lower, row₀, position, extentOf, startOf, leftOf, runOf}
 use Rattle.layout.specs.Frames.{Other}
 use Rattle.table.specs.Marks.{Linked, activeIn, After}
 use Rattle.stack.specs.Packing.{packed, Faithful}
@@ -37,8 +37,15 @@ pub record LaneHolds (w : List ℕ) (e : Extent) (values : List ℤ) : Type 0 wh
   pub row : (h : Held) → Lower h (e .rows) → RowHolds w (e .lane) (e .height) values h (position w (e .lane) h)
 
 -- its positions are from one position on, and before another
-abbrev pub Spans : List ℕ → Extent → ℕ → ℕ → Type 0
-Spans w e from to = (h : Held) → Lower h (e .rows) → (from ≤ position w (e .lane) h .0) × (position w (e .lane) h .0 < to)
+abbrev pub Spans : List ℕ → Extent → Position → Position → Type 0
+Spans w e from to = (h : Held) → Lower h (e .rows) → (from .0 ≤ position w (e .lane) h .0) × Earlier (position w (e .lane) h) to
+
+-- the position after the present one, and the position before the first
+abbrev pub upcoming : List ℤ → Position
+upcoming values = next (presentAt values)
+
+abbrev pub origin : Position
+origin = record { 0 = 0 }
 
 -- its active marks, and those of its rows before one
 abbrev pub marksIn : List ℕ → Extent → List Position
@@ -109,9 +116,9 @@ pub record Laid (s : Roles) (w : List ℕ) (values : List ℤ) (l : ℕ) : Type 
   pub next : LaneHolds w (s .next) (take (s .start .0) values)
   pub order : s .middle .0 ≤ s .start .0
   pub ends : s .start .0 ≤ length values
-  pub inActive : Spans w (s .active) (s .start .0) (length values + 1)
-  pub inYounger : Spans w (s .younger) (s .middle .0) (s .start .0)
-  pub inOlder : Spans w (s .older) 0 (s .middle .0)
+  pub inActive : Spans w (s .active) (s .start) (upcoming values)
+  pub inYounger : Spans w (s .younger) (s .middle) (s .start)
+  pub inOlder : Spans w (s .older) origin (s .middle)
   -- the younger lane's first mark is where it starts, where anything is older; with no younger lane, the older one ends where the active one starts
   pub middleRow : 0 < s .middle .0 → 0 < s .younger .rows .0 → position w (s .younger .lane) row₀ ≡ s .middle
   pub whole : s .younger .rows .0 ≡ 0 → s .middle ≡ s .start
