@@ -44,8 +44,3 @@ pub record Within (written : Kind → Bool) (k : Lane) (end : Held) (w v : List 
   pub others : (j : Lane) → Other j k → SameLane j w v
   pub kinds : (kind : Kind) → written kind ≡ false → Same kind k w v
   pub beyond : (i : ℕ) → 32 + 32 * end .0 ≤ i → getD v i 0 ≡ getD w i 0
-
--- what every call on lent words has in common, whatever they hold: as many words, and from 262,656 on, which is where those of 4,096 marks end, each as it was
-pub record Inside (w v : List ℕ) : Type 0 where
-  pub long : length v ≡ length w
-  pub beyond : (i : ℕ) → 262656 ≤ i → getD v i 0 ≡ getD w i 0

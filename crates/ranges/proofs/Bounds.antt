@@ -14,7 +14,7 @@ use Rattle.layout.specs.declared.Extent.{Extent}
 use Rattle.layout.specs.declared.Role.{Role}
 use Rattle.layout.specs.declared.Role.the-variants.{Active, Younger, Older, Next}
 use Rattle.layout.specs.Words.{markWord, headerOf, extentOf, leftOf, runOf, Room}
-use Rattle.layout.specs.Frames.{Inside, Kind, SameLanes, Within}
+use Rattle.layout.specs.Frames.{Kind, SameLanes, Within}
 use Rattle.layout.proofs.Written.{wrote-header, lanes-then}
 use Rattle.layout.proofs.Puts.{puts-lanes}
 use Rattle.table.specs.declared.Found.{Found}
@@ -22,6 +22,7 @@ use Rattle.table.specs.declared.Found.the-variants.{At, Nothing}
 use Rattle.table.specs.Calls.{rowOf, Released}
 use Rattle.table.proofs.Closing.{release-within}
 use Rattle.stack.proofs.Rooms.{room-or-not}
+use Rattle.ranges.specs.Calls.{Inside}
 use Rattle.ranges.specs.Private.{ClosedNext, Appended, Carried, Step, Stepped, Merged, finishing, Finished, turning, Turns, Turned, Shared}
 
 -- nothing is done, and one thing after another

@@ -22,7 +22,6 @@ use Rattle.layout.specs.declared.Place.{Place}
 use Rattle.layout.specs.declared.Extent.{Extent}
 use Rattle.layout.specs.declared.Role.{Role}
 use Rattle.layout.specs.declared.Role.the-variants.{Active, Younger, Older, Next}
-use Rattle.layout.specs.Frames.{Inside}
 use Rattle.layout.specs.Words.{Under, bottom, leastWord, extentOf, startOf, Room, puts}
 use Rattle.layout.proofs.Written.{wrote-header}
 use Rattle.layout.proofs.Puts.{puts-lanes}
@@ -37,7 +36,7 @@ use Rattle.stack.proofs.Lowering.{lowered-within}
 use Rattle.stack.proofs.Rooms.{room-or-not}
 use Rattle.ranges.specs.declared.Lowest.the-variants.{At, Nothing}
 use Rattle.ranges.specs.Holding.{Holds}
-use Rattle.ranges.specs.Calls.{Opened, Valued, Marked, minimumOf, LookedUp, Closed}
+use Rattle.ranges.specs.Calls.{Inside, Opened, Valued, Marked, minimumOf, LookedUp, Closed}
 use Rattle.ranges.specs.Private.{Chosen, LowerOf, UpToNow, ClosedNext, Appended, Turned, Shared}
 use Rattle.ranges.proofs.Bounds.{nothing-done, done-then, header-inside, within-inside, released-inside, next-inside, appended-inside, turned-inside, shared-inside}
 use Rattle.ranges.proofs.Later.{rooms}

@@ -5,7 +5,7 @@ use mathlib.Core.List.{List}
 use mathlib.Core.Option.{Option, none, some}
 use Prim.Native.Nat.{ℕ, _<_, _≤_}
 use lib.IntN.{ℤ}
-use lib.ListN.{length}
+use lib.ListN.{length, getD}
 use Rattle.history.specs.declared.Position.{Position}
 use Rattle.history.specs.declared.Minimum.{Minimum}
 use Rattle.history.specs.declared.Command.the-variants.{Value, Mark, Close}
@@ -16,13 +16,17 @@ use Rattle.history.specs.Sound.{Sound}
 use Rattle.layout.specs.declared.Held.{Held}
 use Rattle.layout.specs.declared.Place.{Place}
 use Rattle.layout.specs.declared.Role.{Role}
-use Rattle.layout.specs.Frames.{Inside}
 use Rattle.layout.specs.Words.{Under, extentOf, leastWord}
 use Rattle.table.specs.Marks.{Live}
 use Rattle.stack.specs.Packing.{unpacked}
 use Rattle.ranges.specs.declared.Lowest.{Lowest}
 use Rattle.ranges.specs.declared.Lowest.the-variants.{At, Nothing}
 use Rattle.ranges.specs.Holding.{Holds}
+
+-- what every call has in common, whatever the words hold: as many words, and from 262,656 on, which is where those of 4,096 marks end, each as it was
+pub record Inside (w v : List ℕ) : Type 0 where
+  pub long : length v ≡ length w
+  pub beyond : (i : ℕ) → 262656 ≤ i → getD v i 0 ≡ getD w i 0
 
 -- the words are opened: they hold an opening's history; with fewer than 576 nothing is done
 pub record Opened (w v : List ℕ) : Type 0 where
