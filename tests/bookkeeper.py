@@ -6,8 +6,9 @@ The history is plain: every value is written down, and a minimum is looked for a
   python3 tests/bookkeeper.py < crates/stream/stdin | diff - crates/stream/stdout
 
 tests/stream.txt says how crates/stream/stdin is made. tests/streams has further runs, each as NAME.bytes and NAME.out: document 01's example; a Mark and an unknown kind, 02 05; an
-argument that is cut off, 03 01 00 00; no bytes; and the longest lines that 16,384 bytes of commands give, with a running number of five digits, the least value and a place of
-four digits: 1,401 Values, the last of them the least, then Marks, and two Queries near the end.
+argument that is cut off, 03 01 00 00; no bytes; the longest lines that 16,384 bytes of commands give, with a running number of five digits, the least value and a place of
+four digits: 1,401 Values, the last of them the least, then Marks, and two Queries near the end; and marks that live through up to seven turns and merges, which merges.txt
+has as text.
 """
 import sys
 

@@ -16,7 +16,7 @@ import windows
 
 STORED = 'crates/played/stdout'
 STANDINGS = ['none', 'unmarked', 'marked', 'closed']
-# the value that a round repeats, by the number of rounds
+# the value that a round repeats, by the number of rounds, where it is not printed
 ROUNDS = {'100000': 7, '10000': 5}
 BY_HAND = [
     'lent 576 V -2147483648: 0; M: 0; Q 4294967295: 0, -2147483648 at 4294967295; N 576, K 1, present 4294967295, last -2147483648, active 1, marked',
@@ -104,12 +104,12 @@ def reading(said):
     return f'{head[0]} {found}'
 
 
-def played(rounds, board):
+def played(rounds, value, board):
     """So many rounds of a Value, a Mark and a Close of it: how many commands were accepted."""
     accepted = 0
-    for _ in range(int(rounds)):
+    for _ in range(rounds):
         for letter in 'VMC':
-            argument = {'V': ROUNDS[rounds], 'M': 0, 'C': len(board.history.values)}[letter]
+            argument = {'V': value, 'M': 0, 'C': len(board.history.values)}[letter]
             accepted += board.tell(letter, argument) == '0'
     return f'{rounds} rounds: {accepted} accepted'
 
@@ -127,7 +127,9 @@ def part(said, board):
         return said
     if isinstance(board, Board) and board.words:
         if (m := re.match(r'([0-9]+) rounds:', said)) and m[1] in ROUNDS:
-            return played(m[1], board)
+            return played(int(m[1]), ROUNDS[m[1]], board)
+        if m := re.match(r'(V (-?[0-9]+), M, C in )([0-9]+) rounds:', said):
+            return m[1] + played(int(m[3]), int(m[2]), board)
         if said in STANDINGS:
             return board.history.standing
         if (m := re.fullmatch(r'put to (.*)', said)) and m[1] in STANDINGS:
@@ -137,7 +139,7 @@ def part(said, board):
 
 
 def lines(stored):
-    """The lines, worked out. Most begin with an opening; some of the refusals' go on where the last line ended."""
+    """The lines, worked out. Most begin with an opening; some of the merges' and of the refusals' go on where the last line ended."""
     board = None
     for line in stored:
         if line in BY_HAND:

@@ -50,9 +50,9 @@ fn side_by_side() {
     lent::print_changed(&area, 704);
 }
 
-// An older mark keeps its dip through many rounds, whose closed marks are recovered by rebuilds. The area is opened for 4,096 marks, and two
+// An older mark keeps its dip through many rounds, whose closed marks the merges leave behind. The area is opened for 4,096 marks, and two
 // at most are active together: the words from 512 + 64 * 2 on keep the pattern.
-fn rebuilds() {
+fn many_merges() {
     let mut area = [0u64; 262656];
     compare::fill(&mut area);
     let s = call::open(&mut area);
@@ -71,6 +71,6 @@ pub fn sequences() {
     examples::play(b"V3 M V3 V4 V3 Q1");
     two_places();
     side_by_side();
-    rebuilds();
+    many_merges();
     unopened();
 }

@@ -1,6 +1,7 @@
 // A case of each refusal of a command, 4 to 11: a refused command changes no word and nothing in the session.
 use crate::call;
 use crate::print;
+use crate::rounds;
 use crate::script;
 use history::Position;
 use history::Session;
@@ -39,6 +40,19 @@ fn from_full(s: Session, area: &mut [u64; 577]) {
     let s = script::run_first(s, area, 576, b"C1 M C2");
     refused(s, area, 576, b"M");
     refused(s, area, 576, b"Q2");
+}
+
+// 9, 8, 11 and 10 in a merge, which the 16th Mark begins and the 23rd ends.
+fn in_merge(area: &mut [u64; 577]) {
+    let s = call::open(area);
+    let s = rounds::play_shown(s, area, 5, 17);
+    refused(s, area, 577, b"M");
+    let s = script::run_first(s, area, 577, b"V6 M");
+    refused(s, area, 577, b"M");
+    refused(s, area, 577, b"Q17");
+    refused(s, area, 577, b"C17");
+    let s = script::run_first(s, area, 577, b"V7");
+    refused(s, area, 577, b"M");
 }
 
 // The last position, from a session made by hand, since no run here is as long: it is reached, marked, and shown where the least value stands.
@@ -83,6 +97,7 @@ pub fn sequences() {
     let s = call::open_first(&mut area, 576);
     let s = before_full(s, &mut area);
     from_full(s, &mut area);
+    in_merge(&mut area);
     to_last_position(&mut area);
     at_last_position(&mut area);
     unopened(&mut area);

@@ -45,3 +45,11 @@ pub fn play(start: Session, area: &mut [u64], v: i32, turns: u32) -> Session {
     print::text(b" accepted; ");
     s
 }
+
+// The same, and prints the value before.
+pub fn play_shown(s: Session, area: &mut [u64], v: i32, turns: u32) -> Session {
+    print::text(b"V ");
+    print::signed(v);
+    print::text(b", M, C in ");
+    play(s, area, v, turns)
+}

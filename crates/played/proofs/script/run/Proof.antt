@@ -18,8 +18,14 @@ loop-holds c = search needs
 shared-slice-read-step-of : tie.Need-shared-slice-read-step-of Inv-loop μ-loop
 shared-slice-read-step-of c = search needs
 
-sign-after-requires : tie.Need-sign-after-requires Inv-loop μ-loop
-sign-after-requires c κs = search needs
+add-sign-at : tie.Need-add-sign-at Inv-loop μ-loop
+add-sign-at c = search needs
+
+sign-at-requires : tie.Need-sign-at-requires Inv-loop μ-loop
+sign-at-requires c κs = search needs
+
+number-after-requires : tie.Need-number-after-requires Inv-loop μ-loop
+number-after-requires c κs = search needs
 
 step-of-requires : tie.Need-step-of-requires Inv-loop μ-loop
 step-of-requires c κs = search needs
@@ -50,7 +56,9 @@ run-spec =
     μ-loop
     loop-holds
     shared-slice-read-step-of
-    sign-after-requires
+    add-sign-at
+    sign-at-requires
+    number-after-requires
     step-of-requires
     done-requires
     add-i
