@@ -17,7 +17,7 @@ pub enum Low {
     Nothing,
 }
 
-// The entries that a value is compared with one by one, from the top down. What lies below them is searched by halves.
+// The entries that a value passes one by one, from the top down. What lies below them is searched by halves.
 const LOOKS: usize = 4;
 
 // A minimum as a word. The order of words is that of the values and, among equal values, that of the choice: the earlier place is the lower word.
