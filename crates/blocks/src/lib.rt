@@ -1,6 +1,8 @@
 // A static range minimum over blocks: document 02, point 3. A finished take, which is a lent list of values, stands beside its index, the least of each block of 64 values. One call builds
 // the index, one searches a range of the take, and one hands back a stretch of it. What the rough reading of point 6 shares with these is public, too: how many blocks there are, how many end
 // before a place, the least of any values, and which refusal is due.
+#![tactic(auto)]
+
 ghost use Rattle.std.specs.Prelude.{◌≡◌, ◌+◌, ◌*◌, ◌<◌, ◌≤◌, length, take as front};
 ghost use Rattle.history.specs.Minima.{takes_over};
 ghost use Rattle.blocks.specs.Takes.{minimum_from, block_of, block_count, blocks_before, search_refusal, least_of, figure, due_of, told};
@@ -10,24 +12,24 @@ ghost use Rattle.blocks.specs.Private.{PlaceOf, lower_of, OfBlocks, with_left, w
 use history::{Due, Refusal};
 
 // A place in a take, counted from 0.
-#[derive(Drop)]
+#[derive(Clone, Copy)]
 pub struct Offset(pub usize);
 
 // The least value of a range, and where it stands.
-#[derive(Drop)]
+#[derive(Clone, Copy)]
 pub struct Found {
     pub value: i32,
     pub place: Offset,
 }
 
 // The least of some values, where there are any.
-#[derive(Drop)]
+#[derive(Clone, Copy)]
 pub enum Known {
     Nothing,
     Value(i32),
 }
 
-#[derive(Drop)]
+#[derive(Clone, Copy)]
 pub enum Reply {
     Accepted,
     Lowest(Found),

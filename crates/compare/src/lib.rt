@@ -1,5 +1,7 @@
 // What the program `played` compares: lent words with a pattern and with other words, a session with another, a reply with an acceptance. Each is held to what it
 // says, so that a line of the program's output that says 0 or "equal" can fail.
+#![tactic(auto)]
+
 ghost use Rattle.std.specs.Prelude.{◌≡◌, ◌≤◌};
 ghost use Rattle.history.specs.Replies.{told};
 ghost use Rattle.compare.specs.Words.{pattern_at, Filled, differing_words, off_pattern};

@@ -1,6 +1,8 @@
 // A run that is really made, so that the theorems over all runs speak of something; and the theorems, cited (proofs/Cited) and applied (proofs/Applied).
 // Each call has the session that the last one returned, and is lent the words that were opened, but for two in `elsewhere`. A second run follows a refused
 // opening, and document 01's example is written.
+#![tactic(auto)]
+
 ghost use Rattle.std.specs.Prelude.{◌≡◌, ◌++◌, length, take};
 ghost use Rattle.history.specs.Histories.{session_of, blank};
 ghost use Rattle.engine.specs.Calls.{Opens, Does};

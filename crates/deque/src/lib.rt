@@ -1,6 +1,8 @@
 // The suffix minima of a stream's last values, in lent words: a monotone deque. An entry comes behind those that it does not take over from; the oldest leaves at the front. Word 0 has the
 // front's slot and the number of entries, which stand one behind the other from word 1 + front on. Where they pass the last of the slots, each stands once more as many words lower, so that
 // a front that has moved over all of them starts anew at the first.
+#![tactic(auto)]
+
 ghost use Rattle.std.specs.Prelude.{◌≡◌, ◌+◌, ◌*◌, ◌<◌, ◌≤◌, leb, length};
 ghost use Rattle.history.specs.Minima.{takes_over};
 ghost use Rattle.deque.specs.Words.{packed, value_in, place_in, unpacked, entry_word};

@@ -1,4 +1,6 @@
 // Numbers in little-endian bytes, the least significant byte first. What a number stands for is not known here.
+#![tactic(auto)]
+
 ghost use Rattle.std.specs.Prelude.{◌≡◌, ◌<◌, ◌≤◌, length};
 ghost use Rattle.endian.specs.Numbers.{little_endian};
 

@@ -1,5 +1,7 @@
 // The level engine: an opening and the four commands of source document 000, over words that the caller lends.
 // The session goes in with each call and a new one comes out; all else that outlives a call is in the words.
+#![tactic(auto)]
+
 ghost use Rattle.std.specs.Prelude.{◌≡◌, ◌<◌, length};
 ghost use Rattle.history.specs.declared.Command.TheVariants.{Value, Mark, Query, Close};
 ghost use Rattle.history.specs.declared.Event.{Event};

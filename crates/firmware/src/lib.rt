@@ -1,4 +1,6 @@
 // What the pedal's C firmware calls, under the names and with the promises of include/filkotar.h. The modules say how sessions and answers cross, as structs of numbers.
+#![tactic(auto)]
+
 ghost use Rattle.std.specs.Prelude.{◌≡◌};
 ghost use Rattle.gain.specs.Gains.{gain_of};
 ghost use Rattle.firmware.specs.Windows.{OpensInNumbers, DoesInNumbers};

@@ -9,7 +9,7 @@ use rough::Reading;
 
 // A rough reading's answer, C's `filkotar_reading`: the looks used, the reply's number, 1 where a high figure is known, and the figures that are shown, or zeros.
 #[repr(C)]
-#[derive(Drop)]
+#[derive(Clone, Copy)]
 pub struct ReadingNumbers {
     pub looks: usize,
     pub number: u32,

@@ -8,7 +8,7 @@ use blocks::{Found, Offset, Reply};
 
 // A search's answer, C's `filkotar_found`: the reply's number, and the value and place that it shows, or zeros.
 #[repr(C)]
-#[derive(Drop)]
+#[derive(Clone, Copy)]
 pub struct FoundNumbers {
     pub number: u32,
     pub value: i32,

@@ -8,7 +8,7 @@ use window::{Answer, Window};
 
 // A session: C's `filkotar_window`.
 #[repr(C)]
-#[derive(Drop)]
+#[derive(Clone, Copy)]
 pub struct WindowNumbers {
     pub words: usize,
     pub width: usize,
@@ -17,7 +17,7 @@ pub struct WindowNumbers {
 
 // An answer, C's `filkotar_window_answer`: the session after the call, the reply's number, and the value and place that it shows, or zeros.
 #[repr(C)]
-#[derive(Drop)]
+#[derive(Clone, Copy)]
 pub struct WindowOutcome {
     pub session: WindowNumbers,
     pub number: u32,

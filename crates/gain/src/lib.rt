@@ -1,4 +1,6 @@
 // Document 02, point 1: the gain that the mixer wants for a dip value, in parts of 32,768.
+#![tactic(auto)]
+
 ghost use Rattle.std.specs.Prelude.{◌≡◌, ◌≤◌};
 ghost use Rattle.gain.specs.Gains.{Largest, gain_of};
 

@@ -1,5 +1,7 @@
 // The words that the engine and its callers share: positions, commands, the session and the replies; and the present position's standing.
 // What they mean is said in specs/, from the papers alone; nothing here knows how the engine keeps its marks.
+#![tactic(auto)]
+
 ghost use Rattle.std.specs.Prelude.{◌≡◌, [], ◌∷◌};
 ghost use Rattle.history.specs.declared.Command.TheVariants.{Close};
 ghost use Rattle.history.specs.Replies.{number_of, told, acceptances};
@@ -8,11 +10,11 @@ ghost use Rattle.history.specs.Standings.{transition_of, event_of};
 ghost use Rattle.history.specs.StateVariable.{by_section_2};
 
 // A place in the stream of accepted Values, from 1; 0 stands before the first.
-#[derive(Drop)]
+#[derive(Clone, Copy)]
 pub struct Position(pub u32);
 
 // The present position's standing.
-#[derive(Drop)]
+#[derive(Clone, Copy)]
 pub enum Standing {
     None,
     Unmarked,
@@ -21,13 +23,13 @@ pub enum Standing {
 }
 
 // A range minimum and the position where it stands: document 01's "dip".
-#[derive(Drop)]
+#[derive(Clone, Copy)]
 pub struct Minimum {
     pub value: i32,
     pub place: Position,
 }
 
-#[derive(Drop)]
+#[derive(Clone, Copy)]
 pub enum Command {
     Value(i32),
     Mark,
@@ -36,7 +38,7 @@ pub enum Command {
 }
 
 // Document 01, "Session and area": N, K, the present position, the last value, the number of active marks, the standing.
-#[derive(Drop)]
+#[derive(Clone, Copy)]
 pub struct Session {
     pub words: usize,
     pub limit: usize,
@@ -47,7 +49,7 @@ pub struct Session {
 }
 
 // Why a command, an opening or a reading is refused: document 01's list, then document 02's. The number of each is `number`.
-#[derive(Drop)]
+#[derive(Clone, Copy)]
 pub enum Refusal {
     AreaTooShort,
     UnknownKind,
@@ -66,7 +68,7 @@ pub enum Refusal {
     OtherIndexLength,
 }
 
-#[derive(Drop)]
+#[derive(Clone, Copy)]
 pub enum Reply {
     Accepted,
     Lowest(Minimum),
@@ -74,14 +76,14 @@ pub enum Reply {
 }
 
 // A reply, with the session after it.
-#[derive(Drop)]
+#[derive(Clone, Copy)]
 pub struct Answer {
     pub reply: Reply,
     pub session: Session,
 }
 
 // What a command is to the present position's standing: a "step" of document 02, point 4.
-#[derive(Drop)]
+#[derive(Clone, Copy)]
 pub enum Event {
     Value,
     Mark,
@@ -90,14 +92,14 @@ pub enum Event {
 }
 
 // What is due, to an event by the standing or to a search of a stored take by its lengths: a refusal or nothing.
-#[derive(Drop)]
+#[derive(Clone, Copy)]
 pub enum Due {
     Nothing,
     Refused(Refusal),
 }
 
 // What is due to an event, and the standing after its acceptance. Where a refusal is due the standing stays.
-#[derive(Drop)]
+#[derive(Clone, Copy)]
 pub struct Transition {
     pub due: Due,
     pub after: Standing,

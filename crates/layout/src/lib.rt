@@ -3,6 +3,8 @@
 // bucket n (7). So the words touched grow with the rows there is room for, and these with the active marks.
 // The header has 8 words for each role: the lane that has it, its rows, the rows it has room for, its stack's height (0 to 3), the position that it starts at (4: of the active and
 // the younger lane), and the next row that is carried into the next lane, with its run (5 and 6: of the younger and the older one).
+#![tactic(auto)]
+
 ghost use Rattle.std.specs.Prelude.{◌≡◌, ◌≤◌};
 ghost use Rattle.layout.specs.Words.{header_of};
 ghost use Rattle.layout.specs.Calls.{Read, Roomy};
@@ -17,19 +19,19 @@ pub const FIRST_ROWS: usize = 15;
 pub const MOST_ROWS: usize = 8207;
 
 // A reduced position: source document 000's number of a mark among those it keeps, here its row in a lane. A number of rows is the row after the last.
-#[derive(Drop)]
+#[derive(Clone, Copy)]
 pub struct Held(pub usize);
 
 // A place of a stack, from 0 at its bottom. A stack's height is the place after its top.
-#[derive(Drop)]
+#[derive(Clone, Copy)]
 pub struct Place(pub usize);
 
 // One of the four lanes: those whose numbers leave the same remainder by 4 are the same.
-#[derive(Drop)]
+#[derive(Clone, Copy)]
 pub struct Lane(pub usize);
 
 // What a lane is for (source document 000, Lemma 7): the active one gets the marks and values; the two older ones, which stand still, are merged into the next one.
-#[derive(Drop)]
+#[derive(Clone, Copy)]
 pub enum Role {
     Active,
     Younger,
@@ -38,7 +40,7 @@ pub enum Role {
 }
 
 // A lane, how many rows are in use, how many there is room for, and how high its stack is.
-#[derive(Drop)]
+#[derive(Clone, Copy)]
 pub struct Extent {
     pub lane: Lane,
     pub rows: Held,

@@ -1,5 +1,7 @@
 // The limiter of document 02, point 2: reads W, the number of words to lend and values from standard input, as bytes, and writes all that is printed of them to standard output. What that
 // is, is proved in `readout`.
+#![tactic(auto)]
+
 fn main() {
     let mut bytes = [0u8; 65536];
     let n = io::read_full(0, &mut bytes);

@@ -1,4 +1,6 @@
 // `lookup`, but for its input and output: a take is read, its index built and requests are answered, all as bytes, and all that is printed of them is written into an array.
+#![tactic(auto)]
+
 mod lines;
 
 ghost use Rattle.std.specs.Prelude.{◌≡◌, ◌+◌, ◌*◌, ◌<◌, ◌≤◌, length, take};
@@ -10,7 +12,7 @@ ghost use Rattle.listing.specs.Private.{Headed, Heads, read_as, Performs, Follow
 use numbers::number_at;
 
 // What is asked of a take: its least value over a range, a stretch of it, a rough reading of a range, or another number in its index.
-#[derive(Drop)]
+#[derive(Clone, Copy)]
 pub enum Request {
     Search {
         from: usize,
@@ -32,21 +34,21 @@ pub enum Request {
 }
 
 // What the first bytes say: how many values a take has, and how many entries its index has.
-#[derive(Drop)]
+#[derive(Clone, Copy)]
 enum Heading {
     Take { values: usize, entries: usize },
     Nothing,
 }
 
 // What reading at an offset finds.
-#[derive(Drop)]
+#[derive(Clone, Copy)]
 enum Reading {
     Next(Request),
     Nothing,
 }
 
 // How far the requests have been followed: how many were read, and how many bytes are written.
-#[derive(Drop)]
+#[derive(Clone, Copy)]
 struct Progress {
     read: usize,
     used: usize,

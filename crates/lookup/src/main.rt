@@ -1,5 +1,7 @@
 // `lookup` of document 02, points 3 and 6: reads a take, the length of its index and requests from standard input, as bytes, and writes all that is printed of them to standard output. What that is,
 // is proved in `listing`.
+#![tactic(auto)]
+
 fn main() {
     let mut bytes = [0u8; 65536];
     let n = io::read_full(0, &mut bytes);

@@ -1,4 +1,6 @@
 // The numbers and the values of four bytes that stand in a program's bytes. What a program takes them for is not known here.
+#![tactic(auto)]
+
 ghost use Rattle.std.specs.Prelude.{◌≡◌, ◌+◌, ◌*◌, ◌≤◌, length};
 ghost use Rattle.numbers.specs.FourBytes.{number_at, value_at, values_from};
 

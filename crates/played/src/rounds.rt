@@ -6,7 +6,7 @@ use crate::print;
 use history::Session;
 
 // A session, with how many of the commands that led to it were accepted.
-#[derive(Drop)]
+#[derive(Clone, Copy)]
 struct Played {
     session: Session,
     accepted: u64,

@@ -6,7 +6,7 @@ use crate::{call, print};
 use history::{Command, Position, Session};
 
 // What begins at a sign of a script.
-#[derive(Drop)]
+#[derive(Clone, Copy)]
 enum Step {
     Does(Command),
     Nothing,

@@ -1,5 +1,7 @@
 // The marks that the lent words hold, each with its range minimum. This is all that the engine knows of the words: they are opened, a value comes, a mark is appended, a mark
 // is closed, a mark is looked up. No call does more than a fixed number of steps, but for searches by halves: source document 000, Lemma 7 and Theorem 3, "in real time".
+#![tactic(auto)]
+
 ghost use Rattle.std.specs.Prelude.{◌≡◌, ◌<◌, ◌≤◌, length};
 ghost use Rattle.ranges.specs.Calls.{Opened, Valued, Marked, LookedUp, Closed};
 ghost use Rattle.ranges.specs.Private.{Chosen, LowerOf, UpToStart, UpToNow, ClosedNext, Appended, Carried, Stepped, Merged, Finished, size_for, Turned, Shared};
@@ -10,7 +12,7 @@ use stack::Low;
 use table::Found;
 
 // What a look-up finds.
-#[derive(Drop)]
+#[derive(Clone, Copy)]
 pub enum Lowest {
     At(Minimum),
     Nothing,

@@ -1,5 +1,7 @@
 // Command bytes: the next command of a stream, or why it cannot be read. What the bytes mean is said in specs/, from document 01 alone, with the
 // numbers of `endian` and `signed`; what a command does is not known here.
+#![tactic(auto)]
+
 ghost use Rattle.std.specs.Prelude.{◌≡◌};
 ghost use Rattle.reading.specs.Kinds.{kind_of, argument_bytes, command_of};
 ghost use Rattle.reading.specs.Outcomes.{read_as, reading_of};
@@ -7,7 +9,7 @@ ghost use Rattle.reading.specs.Outcomes.{read_as, reading_of};
 use history::{Command, Position, Refusal};
 
 // The kinds of command that the table of command bytes lists.
-#[derive(Drop)]
+#[derive(Clone, Copy)]
 enum Kind {
     Value,
     Mark,
@@ -16,14 +18,14 @@ enum Kind {
 }
 
 // What a kind byte says.
-#[derive(Drop)]
+#[derive(Clone, Copy)]
 enum KindByte {
     Known(Kind),
     Unknown,
 }
 
 // What reading at the start of the rest of a stream finds.
-#[derive(Drop)]
+#[derive(Clone, Copy)]
 pub enum Reading {
     // Nothing is left.
     End,

@@ -1,4 +1,6 @@
 // The limiter, but for its input and output: a window is opened and values go through it, all as bytes, and all that is printed of them is written into an array.
+#![tactic(auto)]
+
 mod lines;
 
 ghost use Rattle.std.specs.Prelude.{◌≡◌, ◌+◌, ◌*◌, ◌<◌, ◌≤◌, min, length, take};
@@ -11,7 +13,7 @@ use numbers::number_at;
 use window::Window;
 
 // How far the values have been followed: the session, how many were accepted, and how many bytes are written.
-#[derive(Drop)]
+#[derive(Clone, Copy)]
 struct Progress {
     session: Window,
     accepted: usize,

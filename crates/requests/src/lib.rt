@@ -1,5 +1,7 @@
 // The theorems of document 02's points, cited under their statements and used clause by clause, of the functions as they stand in the source (proofs/). The code here makes runs of the
 // window, so that the claim over all of them speaks of something, and writes an example of the limiter's output and of `lookup`'s.
+#![tactic(auto)]
+
 ghost use Rattle.std.specs.Prelude.{◌≡◌, length, take};
 ghost use Rattle.window.specs.Windows.{session_of, blank};
 ghost use Rattle.window.specs.Calls.{Opens, Does};

@@ -1,5 +1,7 @@
 // A search of a stored take with a budget: document 02, point 6, a rough reading first. A look reads one index entry or one value of the take. The looks have a fixed order, and a budget of B
 // looks allows the first B of them; what they show bounds the least value of the range from above and from below.
+#![tactic(auto)]
+
 ghost use Rattle.std.specs.Prelude.{◌≡◌, ◌+◌, ◌*◌, ◌<◌, ◌≤◌, min, max, length};
 ghost use Rattle.std.proofs.Math.Option.{some};
 ghost use Rattle.blocks.specs.Takes.{block_count, figure};
@@ -12,7 +14,7 @@ use history::{Due, Refusal};
 
 // What the looks show: how many were used; the high figure, the least value that is known to be in the range, if one is; and the low figure, which the least of the range is not below where the
 // index was built from that take.
-#[derive(Drop)]
+#[derive(Clone, Copy)]
 pub struct Figures {
     pub looks: usize,
     pub high: Known,
@@ -20,21 +22,21 @@ pub struct Figures {
 }
 
 // The answer. A refusal uses no look and shows no figure.
-#[derive(Drop)]
+#[derive(Clone, Copy)]
 pub enum Reading {
     Figures(Figures),
     Refused(Refusal),
 }
 
 // What is left of the budget after some looks, and the least of what they showed.
-#[derive(Drop)]
+#[derive(Clone, Copy)]
 struct Seen {
     rest: usize,
     least: Known,
 }
 
 // The same of index entries: the least of all, and of those whose blocks are wholly inside the range.
-#[derive(Drop)]
+#[derive(Clone, Copy)]
 struct Entries {
     rest: usize,
     all: Known,
@@ -42,7 +44,7 @@ struct Entries {
 }
 
 // Where a range is cut: its blocks wholly inside go from `inner` to before `outer`; its values in other blocks to before `left`, and from `right` on.
-#[derive(Drop)]
+#[derive(Clone, Copy)]
 struct Cuts {
     inner: usize,
     outer: usize,

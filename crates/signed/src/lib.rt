@@ -1,5 +1,7 @@
 // A signed value of 32 bits and its other forms. As a word of the area it is offset by 2 ^ 31, so that every value, both ends with it, has a word
 // of its own. As an unsigned number of 32 bits it is its two's complement.
+#![tactic(auto)]
+
 ghost use Rattle.std.specs.Prelude.{◌≡◌, ◌<◌, nat_abs};
 ghost use Rattle.signed.specs.Word.{word_of, lower_half, value_of};
 ghost use Rattle.signed.specs.TwosComplement.{signed_of};

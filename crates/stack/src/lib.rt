@@ -1,4 +1,6 @@
 // The stack of source document 000 in a lane: an entry for each run of rows that share a range minimum.
+#![tactic(auto)]
+
 ghost use Rattle.std.specs.Prelude.{◌≡◌, ◌<◌};
 ghost use Rattle.layout.specs.Words.{Room};
 ghost use Rattle.stack.specs.Packing.{packed, unpacked};
@@ -9,7 +11,7 @@ use history::{Minimum, Position};
 use layout::{Held, Lane, Place};
 
 // What a look at the stack finds: the word of a minimum.
-#[derive(Drop)]
+#[derive(Clone, Copy)]
 pub enum Low {
     At(u64),
     Nothing,

@@ -1,4 +1,6 @@
 // The stream program of document 01: reads the bytes of commands from standard input, and writes all that is printed of them to standard output. What that is, is proved in `transcript`.
+#![tactic(auto)]
+
 fn main() {
     let mut bytes = [0u8; 16384];
     let n = io::read_full(0, &mut bytes);

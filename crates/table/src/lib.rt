@@ -1,5 +1,7 @@
 // The marks of a lane: rows in the order of their positions, and hash chains that lead to them. No head is cleared when a lane is taken into use: a bucket with a row of
 // this use has a head of this use, and from any other head a walk meets only rows of other positions.
+#![tactic(auto)]
+
 ghost use Rattle.std.specs.Prelude.{◌≡◌, ◌<◌, ◌≤◌};
 ghost use Rattle.layout.specs.Words.{Room};
 ghost use Rattle.table.specs.Marks.{bucket_of};
@@ -10,7 +12,7 @@ use history::Position;
 use layout::{Held, Lane};
 
 // What a search finds.
-#[derive(Drop)]
+#[derive(Clone, Copy)]
 pub enum Found {
     At(Held),
     Nothing,

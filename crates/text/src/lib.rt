@@ -1,5 +1,7 @@
 // Text, written from left to right into bytes that are lent: bytes, numbers, signed values and replies. Nothing here knows what line they stand in, but for the one line that two programs
 // share.
+#![tactic(auto)]
+
 ghost use Rattle.std.specs.Prelude.{◌++◌, ◌+◌, ◌≤◌, length};
 ghost use Rattle.history.specs.Replies.{told};
 ghost use Rattle.text.specs.Writing.{Adds, decimal_of, signed_text};

@@ -1,4 +1,6 @@
 // The stream program of document 01, but for its input and output: commands as bytes go through the engine, and all that is printed of them is written into an array.
+#![tactic(auto)]
+
 mod lines;
 
 ghost use Rattle.std.specs.Prelude.{◌≡◌, ◌+◌, ◌<◌, ◌≤◌, length, take};
@@ -11,7 +13,7 @@ use history::{Command, Session};
 use reading::Reading;
 
 // How far a stream has been followed: the session, how many commands were read and accepted, and how many bytes are written.
-#[derive(Drop)]
+#[derive(Clone, Copy)]
 struct Progress {
     session: Session,
     read: usize,

@@ -1,5 +1,7 @@
 // The look-ahead window of document 02, point 2: an opening, and a value after which the least of the last W values is told, over words that the caller lends.
 // The session goes in with each call and a new one comes out; all else that outlives a call is in the words.
+#![tactic(auto)]
+
 ghost use Rattle.std.specs.Prelude.{◌≡◌};
 ghost use Rattle.window.specs.Windows as Windows;
 ghost use Rattle.window.specs.Calls.{Opens, Does};
@@ -8,7 +10,7 @@ ghost use Rattle.window.specs.Private.{refused_with};
 use history::{Minimum, Position, Refusal, Reply};
 
 // The window's session: N, W and the present position. It is unopened just when N is 0.
-#[derive(Drop)]
+#[derive(Clone, Copy)]
 pub struct Window {
     pub words: usize,
     pub width: usize,
@@ -16,7 +18,7 @@ pub struct Window {
 }
 
 // A reply, with the session after it.
-#[derive(Drop)]
+#[derive(Clone, Copy)]
 pub struct Answer {
     pub reply: Reply,
     pub session: Window,
