@@ -1,0 +1,17 @@
+-- `demands::refused_run` meets its contract: its calls are put before one another, after an opening that is refused.
+use mathlib.Core.Path.{refl, ◌∙◌}
+use Prim.Native.Nat.{ℕ}
+use lib.ListN.{length-replicate}
+use Rattle.demands.specs.Witness.{unopened}
+use Rattle.runs.proofs.Calling.{none_left}
+use Rattle.demands.proofs.Calling.{unopened_then}
+use Rattle.demands.proofs.Existing.{run_exists}
+use Rattle.demands.proofs.refused_run.Goals as goal
+
+pub returns : goal.returns
+returns c =
+    let «open» = «After-value-arg» in
+    run_exists 575 unopened (length-replicate {A = ℕ} 575 0) «open».«open».ensures
+    (unopened_then («open».«open».ensures.long ∙ length-replicate {A = ℕ} 575 0) c.value-value.ensures
+    (unopened_then (length-replicate {A = ℕ} 640 0) c.mark-mark.ensures none_left))
+    refl

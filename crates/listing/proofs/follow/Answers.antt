@@ -1,0 +1,48 @@
+use mathlib.Core.Path.{sym, ap, ◌∙◌}
+use Prim.Native.Nat.{◌+◌, ◌-◌, ◌≤◌}
+use native.Mathlib.Omega.{arith}
+use lib.ListN.{length}
+use Rattle.listing.specs.Private.{read_as}
+use Rattle.listing.proofs.Requests.{has_bytes, reached_start, reached_more, reached_end}
+use Rattle.listing.proofs.follow.Goals as goal
+use Rattle.listing.proofs.follow.Goals.{In-Next-2}
+
+-- the request that was read has its bytes
+inside : (c : In-Next-2) → c.loop-request.at + 13 ≤ length c.args.bytes.now
+inside c = has_bytes c.args.bytes.now c.loop-request.at (sym c.request_at-reading.ensures ∙ ap read_as c.in-Next.is)
+
+pub loop-request-init : goal.loop-request-init
+loop-request-init c =
+    let a = c.args in
+    reached_start a.take.now a.index.now a.bytes.now a.start a.out.now a.written c.requires.0
+
+pub request_at-reading-requires : goal.request_at-reading-requires
+request_at-reading-requires c = c.loop-request.invariant.within
+
+pub shape_of-index-in-Nothing : goal.shape_of-index-in-Nothing
+shape_of-index-in-Nothing c = c.loop-request.invariant.long
+
+pub shape_of-out-in-Nothing : goal.shape_of-out-in-Nothing
+shape_of-out-in-Nothing c = c.loop-request.invariant.prints.long
+
+pub returns-in-Nothing : goal.returns-in-Nothing
+returns-in-Nothing c =
+    reached_end c.loop-request.invariant c.requires.1 (sym c.request_at-reading.ensures ∙ ap read_as c.in-Nothing.is)
+
+pub overflow_add-read : goal.overflow_add-read
+overflow_add-read c = record { fits = omega (arith, inside (goal.at.overflow_add-read c).In-Next-2, c.loop-request.invariant.place) }
+
+pub perform-used-requires : goal.perform-used-requires
+perform-used-requires c =
+    let v = c.loop-request.invariant in
+    (omega (arith, v.place, inside (goal.at.perform-used-requires c).In-Next-2, c.requires.1), omega (arith, v.place, v.fits, v.prints.long, inside (goal.at.perform-used-requires c).In-Next-2, c.requires.1, c.requires.2))
+
+pub overflow_add-at : goal.overflow_add-at
+overflow_add-at c = record { fits = omega (arith, inside (goal.at.overflow_add-at c).In-Next-2) }
+
+pub loop-request-smaller : goal.loop-request-smaller
+loop-request-smaller c = omega (arith, inside (goal.at.loop-request-smaller c).In-Next-2)
+
+pub loop-request-preserved : goal.loop-request-preserved
+loop-request-preserved c =
+    reached_more c.loop-request.invariant (sym c.request_at-reading.ensures ∙ ap read_as c.in-Next.is) c.perform-used.ensures

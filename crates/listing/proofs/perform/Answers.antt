@@ -1,0 +1,47 @@
+-- `listing::perform` meets its contract: each arm knows the request. A `set` past the end of the index sets nothing, in the code as in the definition.
+use borrow.Author.Rules.{rules}
+use mathlib.Core.Path.{◌≡◌, sym, ap, ◌∙◌}
+use mathlib.Core.List.{List}
+use mathlib.Core.Logic.{⊎_elim}
+use Prim.Native.Nat.{ℕ}
+use native.Mathlib.Omega.{arith}
+use lib.IntN.{ℤ}
+use lib.ListN.{length, set, length-set}
+use lib.Seq.{set_out}
+use mir.Syntax.{w32}
+use mir.Val.{SFits}
+use mir.Facts.{to_z-of_z}
+use Rattle.listing.proofs.Requests.{searched, stretched, looked, entered}
+use Rattle.listing.proofs.perform.Goals as goal
+use Rattle.listing.proofs.perform.Goals.{Joined-entry-index}
+
+-- the number is one of 32 bits
+fits : (c : Joined-entry-index) → SFits w32 c.in-Set.value
+fits c = search rules
+
+-- the entry is the index's, or there is none
+altered : (c : Joined-entry-index) → c.if-entry-index.index ≡ set c.args.index.now c.in-Set.entry c.in-Set.value
+altered c =
+    let index : List ℤ = c.args.index.now in
+    let entry : ℕ = c.in-Set.entry in
+    let v : ℤ = c.in-Set.value in
+    ⊎_elim (λ w. w.1 ∙ ap (set index entry) (to_z-of_z (fits c))) (λ w. w.1 ∙ sym (set_out index entry v (omega (arith, w.0.left)))) c.if-entry-index.branch
+
+pub returns-in-Search : goal.returns-in-Search
+returns-in-Search c =
+    searched c.in-Search.is c.search.ensures c.search-in-Search.ensures.0 c.search-in-Search.ensures.1
+
+pub returns-in-Stretch : goal.returns-in-Stretch
+returns-in-Stretch c =
+    stretched {values = c.args.take.now} {part = c.stretch.result.now} c.in-Stretch.is c.stretch.ensures.has c.stretch-in-Stretch.ensures.0 c.stretch-in-Stretch.ensures.1
+
+pub returns-in-Rough : goal.returns-in-Rough
+returns-in-Rough c =
+    looked c.in-Rough.is c.read.ensures c.rough.ensures.0 c.rough.ensures.1
+
+pub shape_of-index-after-entry-index : goal.shape_of-index-after-entry-index
+shape_of-index-after-entry-index c = ap length (altered (goal.at.shape_of-index-after-entry-index c).Joined-entry-index) ∙ simp length-set
+
+pub returns-after-entry-index : goal.returns-after-entry-index
+returns-after-entry-index c =
+    entered c.in-Set.is (altered (goal.at.returns-after-entry-index c).Joined-entry-index) c.set.ensures.0 c.set.ensures.1

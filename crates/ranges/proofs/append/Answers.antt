@@ -1,0 +1,18 @@
+-- `ranges::append` meets its contract: its tests are the clauses of `Spare`, and past them the row is inserted and its minimum pushed.
+use native.Mathlib.Omega.{arith}
+use Rattle.table.proofs.Roomy.{roomy, narrow}
+use Rattle.ranges.proofs.Ways.{appends_nothing, appends}
+use Rattle.ranges.proofs.append.Goals as goal
+
+pub returns-then-not-has_room : goal.returns-then-not-has_room
+returns-then-not-has_room c = appends_nothing (λ s. narrow c.has_room.ensures c.if-not-has_room.taken s.room)
+
+pub returns-then-capacity-rows : goal.returns-then-capacity-rows
+returns-then-capacity-rows c = appends_nothing (λ s. omega (arith, s.row))
+
+pub returns-then-rows-height : goal.returns-then-rows-height
+returns-then-rows-height c = appends_nothing (λ s. omega (arith, s.high))
+
+pub returns : goal.returns
+returns c =
+    appends (record { room = roomy c.has_room.ensures c.if-not-has_room.left; row = omega arith; high = omega arith }) c.insert.ensures c.push-top.ensures

@@ -1,0 +1,36 @@
+-- `readout::lines::value` meets its contract: the texts that are put one after the other are those of the line.
+use Prim.Native.Nat.{◌≤◌}
+use native.Mathlib.Omega.{arith}
+use lib.ListN.{length}
+use Rattle.text.specs.Writing.{decimal_of}
+use Rattle.text.proofs.Decimals.{within}
+use Rattle.text.proofs.Texts.{then}
+use Rattle.readout.proofs.lines.value.Goals as goal
+use Rattle.readout.proofs.lines.value.Goals.{Start}
+
+-- the running number has no more than five digits
+few : (c : Start) → length (decimal_of c.args.n) ≤ 5
+few c = within 20 4 c.args.n c.requires.0
+
+pub put_number-number-requires : goal.put_number-number-requires
+put_number-number-requires c =
+    omega (arith, c.requires.1, few (goal.at.put_number-number-requires c).Start)
+
+pub put-space-requires : goal.put-space-requires
+put-space-requires c =
+    omega (arith, c.requires.1, few (goal.at.put-space-requires c).Start, c.put_number-number.ensures.counts, c.put_number-number.ensures.long)
+
+pub put_reply-said-requires : goal.put_reply-said-requires
+put_reply-said-requires c =
+    omega (arith, c.requires.1, few (goal.at.put_reply-said-requires c).Start, c.put_number-number.ensures.counts, c.put_number-number.ensures.long, c.put-space.ensures.counts, c.put-space.ensures.long)
+
+pub put-requires : goal.put-requires
+put-requires c =
+    omega (arith, c.requires.1, few (goal.at.put-requires c).Start, c.put_number-number.ensures.counts, c.put_number-number.ensures.long, c.put-space.ensures.counts, c.put-space.ensures.long, c.put_reply-said.ensures.0.long, c.put_reply-said.ensures.1)
+
+pub returns : goal.returns
+returns c =
+    (
+      then c.put_number-number.ensures (then c.put-space.ensures (then c.put_reply-said.ensures.0 c.put.ensures)),
+      omega (arith, few (goal.at.returns c).Start, c.put_number-number.ensures.counts, c.put-space.ensures.counts, c.put_reply-said.ensures.1, c.put.ensures.counts),
+    )
