@@ -6,7 +6,7 @@ use mathlib.Core.Logic.{◌⊎◌}
 use Prim.Native.Nat.{ℕ}
 use lib.ListN.{length}
 use Rattle.laws.proofs.Tests.{clash}
-use Rattle.runs.specs.Runs.{Model, Call, AllAgree}
+use Rattle.runs.specs.Runs.{Model, Call, words_after, state_after, AllAgree}
 use Rattle.runs.specs.Lists.{Line, lines_of, asked_of, worked, state_after_asked, last_session, Commanded}
 use Rattle.runs.proofs.Induction.{own_lent, other_lent}
 
@@ -50,13 +50,13 @@ module _ (M : Model) (n : ℕ) (first : List ℕ) where
   lines_worked words h [] a = refl
   lines_worked words h (c ∷ cs) a =
       ap (λ (t : M.Told). (c.command, length c.lent, t) ∷ lines_of M cs) a.0.tells
-      ∙ ap (λ (ls : List (Line M)). (c.command, length c.lent, M.tells h (length c.lent) c.command) ∷ ls) (lines_worked _ _ cs a.1)
+      ∙ ap (λ (ls : List (Line M)). (c.command, length c.lent, M.tells h (length c.lent) c.command) ∷ ls) (lines_worked (words_after M n words c) (state_after M h c) cs a.1)
 
   -- and return the session of its state
   session_worked : (words : List ℕ) (h : M.State) (s : M.Session) (cs : List (Call M)) → s ≡ M.session_of h → AllAgree M n first words h cs
       → last_session M s cs ≡ M.session_of (state_after_asked M h (asked_of M cs))
   session_worked words h s [] e a = e
-  session_worked words h s (c ∷ cs) e a = session_worked _ _ c.session cs a.0.session a.1
+  session_worked words h s (c ∷ cs) e a = session_worked (words_after M n words c) (state_after M h c) c.session cs a.0.session a.1
 
   -- so calls that were made have the lines that the model makes of what was asked, and the last of them returned the session of its state
   pub played : {did : M.Session → Call M → Type 0} {s r : M.Session} {words after : List ℕ} {asks : List (M.Command × ℕ)} (h : M.State) (m : Commanded M did n s words after asks r)

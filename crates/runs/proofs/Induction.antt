@@ -10,7 +10,7 @@ use native.Mathlib.Decide.{ℕ_discrete}
 use lib.ListN.{length, get_or}
 use borrow.Author.Tests.{eq-eqb, ne_eqb, eqb-true}
 use Rattle.laws.proofs.Tests.{clash}
-use Rattle.runs.specs.Runs.{Model, AsLent, is_own, Call, state_after, Made, Agrees, EachCall}
+use Rattle.runs.specs.Runs.{Model, AsLent, is_own, Call, words_after, state_after, Made, Agrees, EachCall}
 
 -- the start's words are of the opened length, which is not 0
 pub own_length : (n : ℕ) (lent : List ℕ) → is_own n lent ≡ true → (n ≡ 0 → ⊥) × (length lent ≡ n)
@@ -113,7 +113,7 @@ module _ (M : Model) (Sound : M.State → Type 0) (Keeps : M.State → List ℕ 
     all words h s [] i m = tt
     all words h s (c ∷ cs) i m =
         let r = step n first words h s c i m.0 m.1 (is_own n c.lent) refl in
-        (follows _ h c i.opened i.sound r.0, all _ _ c.session cs r.1 m.2)
+        (follows _ h c i.opened i.sound r.0, all (words_after M n words c) (state_after M h c) c.session cs r.1 m.2)
 
     -- THE THEOREM: from any start whose words keep a sound state, where it has words at all
     pub run : (words : List ℕ) (h : M.State) (s : M.Session) (cs : List (Call M)) → s ≡ M.session_of h → Sound h → M.words h ≡ n → AsLent (M.bound h) first words

@@ -13,14 +13,14 @@ use Rattle.runs.proofs.Induction.{own_length, own_lent}
 pub each_call : (M : Model) (P Q : List ℕ → M.State → M.State → Call M → Type 0) → ((now : List ℕ) (h later : M.State) (c : Call M) → P now h later c → Q now h later c)
     → (n : ℕ) (words : List ℕ) (h : M.State) (cs : List (Call M)) → EachCall M P n words h cs → EachCall M Q n words h cs
 each_call M P Q f n words h [] a = tt
-each_call M P Q f n words h (c ∷ cs) a = (f _ h _ c a.0, each_call M P Q f n _ _ cs a.1)
+each_call M P Q f n words h (c ∷ cs) a = (f _ h _ c a.0, each_call M P Q f n (words_after M n words c) (state_after M h c) cs a.1)
 
 module _ (M : Model) (n m : ℕ) (first : List ℕ) where
   -- what calls of m words each are told is what the model tells their commands
   pub told_all : (words : List ℕ) (h : M.State) (cs : List (Call M)) → AllAgree M n first words h cs → AllLent M m cs → told_to M cs ≡ replies_of M h m (commands_of M cs)
   told_all words h [] a l = refl
   told_all words h (c ∷ cs) a l =
-      let rest : told_to M cs ≡ replies_of M (M.step h (length c.lent) c.command) m (commands_of M cs) = told_all _ _ cs a.1 l.1 in
+      let rest : told_to M cs ≡ replies_of M (M.step h (length c.lent) c.command) m (commands_of M cs) = told_all (words_after M n words c) (state_after M h c) cs a.1 l.1 in
       rw l.0 at (ap (λ (t : M.Told). t ∷ told_to M cs) a.0.tells ∙ ap (λ (ts : List M.Told). M.tells h (length c.lent) c.command ∷ ts) rest)
 
   -- and the session that the last one returns is that of the state after them all
@@ -29,7 +29,7 @@ module _ (M : Model) (n m : ℕ) (first : List ℕ) where
   session_last words h s [] e a l = e
   session_last words h s (c ∷ cs) e a l =
       let rest : last_session M c.session cs ≡ M.session_of (state_of M (M.step h (length c.lent) c.command) m (commands_of M cs)) =
-      session_last _ _ c.session cs a.0.session a.1 l.1 in
+      session_last (words_after M n words c) (state_after M h c) c.session cs a.0.session a.1 l.1 in
       rw l.0 at rest
 
 module _ (M : Model) (did : M.Session → Call M → Type 0) where
@@ -53,13 +53,13 @@ module _ (M : Model) (did : M.Session → Call M → Type 0) where
   pub made_more : (n : ℕ) (s : M.Session) (words : List ℕ) (cs : List (Call M)) (c : Call M) → Made M did n s words cs
       → (is_own n c.lent ≡ true → c.lent ≡ words_after_all M n words cs) → did (last_session M s cs) c → Made M did n s words (cs ++ (c ∷ []))
   made_more n s words [] c m e d = (e, d, tt)
-  made_more n s words (a ∷ cs) c m e d = (m.0, m.1, made_more n a.session _ cs c m.2 e d)
+  made_more n s words (a ∷ cs) c m e d = (m.0, m.1, made_more n a.session (words_after M n words a) cs c m.2 e d)
 
 -- what is known of each call of a run is known of the last one
 pub last_call : (M : Model) (P : List ℕ → M.State → M.State → Call M → Type 0) (n : ℕ) (words : List ℕ) (h : M.State) (cs : List (Call M)) (c : Call M)
     → EachCall M P n words h (cs ++ (c ∷ [])) → P (words_after M n (words_after_all M n words cs) c) (state_after_all M h cs) (state_after M (state_after_all M h cs) c) c
 last_call M P n words h [] c a = a.0
-last_call M P n words h (b ∷ cs) c a = last_call M P n _ _ cs c a.1
+last_call M P n words h (b ∷ cs) c a = last_call M P n (words_after M n words b) (state_after M h b) cs c a.1
 
 module _ (M : Model) where
   pub state_more : (h : M.State) (cs : List (Call M)) (c : Call M) → state_after_all M h (cs ++ (c ∷ [])) ≡ M.step (state_after_all M h cs) (length c.lent) c.command
@@ -69,7 +69,7 @@ module _ (M : Model) where
   pub run_words_more : (n : ℕ) (words : List ℕ) (cs : List (Call M)) (c : Call M)
       → words_after_all M n words (cs ++ (c ∷ [])) ≡ words_after M n (words_after_all M n words cs) c
   run_words_more n words [] c = refl
-  run_words_more n words (a ∷ cs) c = run_words_more n _ cs c
+  run_words_more n words (a ∷ cs) c = run_words_more n (words_after M n words a) cs c
 
   pub commands_more : (cs : List (Call M)) (c : Call M) → commands_of M (cs ++ (c ∷ [])) ≡ commands_of M cs ++ (c.command ∷ [])
   commands_more [] c = refl
