@@ -1,6 +1,5 @@
 // Command bytes and how they are read, a line each.
 use crate::print;
-use libc::STDOUT_FILENO;
 use reading::Reading;
 
 fn wide(byte: u8) -> u64 {
@@ -12,7 +11,7 @@ fn listed(bytes: &[u8]) {
     let mut i = 0;
     while i < bytes.len() {
         print::text(b" ");
-        io::print_hex(STDOUT_FILENO, wide(bytes[i]), 2);
+        io::print_hex(print::STDOUT, wide(bytes[i]), 2);
         i += 1;
     }
 }

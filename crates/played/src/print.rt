@@ -1,13 +1,15 @@
 // What is printed of a call: its command, its reply and the session after it.
 use history::{Command, Position, Reply, Session, Standing};
-use libc::STDOUT_FILENO;
+
+// The file descriptor of standard output.
+pub const STDOUT: i32 = 1;
 
 pub fn text(bytes: &[u8]) {
-    io::write_all(STDOUT_FILENO, bytes);
+    io::write_all(STDOUT, bytes);
 }
 
 pub fn number(n: u64) {
-    io::print_decimal(STDOUT_FILENO, n);
+    io::print_decimal(STDOUT, n);
 }
 
 pub fn signed(v: i32) {
