@@ -69,6 +69,7 @@ module _ (h : History) (first w : List ℕ) (p : Position) (k : Holds h first w)
       parts ∙ (λ i. not_older b i || (among p (marks_in w s.younger) || not_active l i)) ∙ or-false (among p (marks_in w s.younger))
   among_lane Older (in_older_lem l b) =
       parts ∙ (λ i. among p (marks_in w s.older) || (not_younger (λ a c. omega arith) i || not_active l i)) ∙ or-false (among p (marks_in w s.older))
+  among_lane Next x' = elim x' [ ]
 
   -- the lane holds its marks, with the minima of the values up to its end
   abbrev pub end_of : Role → List ℤ
@@ -141,3 +142,4 @@ module _ (h : History) (first w : List ℕ) (p : Position) (k : Holds h first w)
             (t.1.some (heights k.laid.younger) (k.laid.younger.stacked.some some)
             ∙ ap (λ (y : ℕ). min y (least_word w s.younger.lane bottom)) e ∙ older_word k.laid p z b f some) t.2
       ]
+  now_word Next c g l x r e q = elim c [ ]

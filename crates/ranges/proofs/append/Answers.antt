@@ -5,7 +5,7 @@ use Rattle.ranges.proofs.Ways.{appends_nothing, appends}
 use Rattle.ranges.proofs.append.Goals as goal
 
 pub returns-then-not-has_room : goal.returns-then-not-has_room
-returns-then-not-has_room c = appends_nothing (λ s. narrow c.has_room.ensures c.if-not-has_room.taken s.room)
+returns-then-not-has_room c = appends_nothing (λ s. narrow c.has_room.ensures c.if-not-has_room.true-raw s.room)
 
 pub returns-then-capacity-rows : goal.returns-then-capacity-rows
 returns-then-capacity-rows c = appends_nothing (λ s. omega (arith, s.row))
@@ -15,4 +15,4 @@ returns-then-rows-height c = appends_nothing (λ s. omega (arith, s.high))
 
 pub returns : goal.returns
 returns c =
-    appends (record { room = roomy c.has_room.ensures c.if-not-has_room.left; row = omega arith; high = omega arith }) c.insert.ensures c.push-top.ensures
+    appends (record { room = roomy c.has_room.ensures c.if-not-has_room.false-raw; row = omega arith; high = omega arith }) c.insert.ensures c.push-top.ensures

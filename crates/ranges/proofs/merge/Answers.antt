@@ -3,11 +3,11 @@ use mathlib.Core.Path.{refl}
 use Rattle.ranges.proofs.merge.Goals as goal
 
 pub returns-then-area-eq0 : goal.returns-then-area-eq0
-returns-then-area-eq0 c = record { idle = λ e. refl; done = λ n. absurd (n c.if-area-eq0.taken) }
+returns-then-area-eq0 c = record { idle = λ e. refl; done = λ n. absurd (n c.if-area-eq0.true) }
 
 pub returns : goal.returns
 returns c =
     record {
-      idle = λ e. absurd (c.if-area-eq0.left e);
+      idle = λ e. absurd (c.if-area-eq0.false e);
       done = λ n. record { one = _; two = _; first = c.merge_row.ensures; second = c.merge_row-2.ensures; last = c.finish.ensures };
     }

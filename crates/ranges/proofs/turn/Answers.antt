@@ -73,6 +73,6 @@ shape_of-area c = simp length-set refl
 pub returns : goal.returns
 returns c =
     record {
-      done = λ t. rw c.?size_for_lem.ensures refl;
+      done = λ t. rw c.size_for-size.ensures refl;
       idle = λ f. absurd (f (record { few = omega arith; full = omega arith; free = omega arith; older = omega arith; rows = omega arith }));
     }

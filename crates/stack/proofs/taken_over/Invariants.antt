@@ -1,5 +1,5 @@
 -- `stack::taken_over` meets its contract. All entries from place k up are above the word; a turn looks at the entry below k, and after a few turns what is left is searched by halves.
-use Prim.Native.Nat.{◌+◌, ◌*◌, ◌-◌}
+use Prim.Native.Nat.{◌+◌, ◌*◌}
 use lib.ListN.{get_or}
 use Rattle.stack.proofs.Parting.{Between}
 use Rattle.stack.proofs.taken_over.Given as goal
