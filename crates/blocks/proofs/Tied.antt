@@ -16,19 +16,19 @@ use Rattle.blocks.proofs.stretch.Reads as stretch-reads
 -- what is learnt of `build`, on a `&[i32]` to the values and a `&mut [i32]` to an index that was `before` and is `after`, which gave r
 abbrev pub Built : BuildSays
 Built values before after r =
-    (κs : Lfts 2) × (x y : MutBor (List ℤ)) × build-reads.Learnt κs (at_last x values, (at_last y before, tt)) r (at_last x values, (at_last y after, tt))
+    (κs : Lfts 2) × (x : ℕ × ℕ) × (y : MutBor (List ℤ)) × build-reads.Learnt κs (record { ref_ptr = x; now = values }, (at_last y before, tt)) r (record { ref_ptr = x; now = values }, (at_last y after, tt))
 
 -- of `search`, on a `&[i32]` to the values and one to the index
 abbrev pub Searched : SearchSays
 Searched values index i j r =
-    (κs : Lfts 2) × (x y : MutBor (List ℤ))
-    × search-reads.Learnt κs (at_last x values, (at_last y index, (i, (j, tt)))) r (at_last x values, (at_last y index, (i, (j, tt))))
+    (κs : Lfts 2) × (x y : ℕ × ℕ)
+    × search-reads.Learnt κs (record { ref_ptr = x; now = values }, (record { ref_ptr = y; now = index }, (i, (j, tt)))) r (record { ref_ptr = x; now = values }, (record { ref_ptr = y; now = index }, (i, (j, tt))))
 
 -- and of `stretch`, on a `&[i32]` to the values, which start at `at`; it gave a `&[i32]` to the part, which starts at `start`
 abbrev pub Stretched : StretchSays
 Stretched at values i j start part =
-    (κs : Lfts 1) × (x y : ℕ)
-    × stretch-reads.Learnt κs (record { ref_ptr = at; ghost_name = x; now = values }, (i, (j, tt))) (record { ref_ptr = start; ghost_name = y; now = part }) (record { ref_ptr = at; ghost_name = x; now = values }, (i, (j, tt)))
+    (κs : Lfts 1)
+    × stretch-reads.Learnt κs (record { ref_ptr = at; now = values }, (i, (j, tt))) (record { ref_ptr = start; now = part }) (record { ref_ptr = at; now = values }, (i, (j, tt)))
 
 pub builds : (values before after : List ℤ) (r : Reply) → Built values before after r → Builds values before after r
 builds values before after r (κs, x, y, d) = d
@@ -37,20 +37,20 @@ pub searches : (values index : List ℤ) (i j : ℕ) (r : Reply) → Searched va
 searches values index i j r (κs, x, y, d) = d
 
 pub stretches : (at : ℕ × ℕ) (values : List ℤ) (i j : ℕ) (start : ℕ × ℕ) (part : List ℤ) → Stretched at values i j start part → Stretches at values i j start part
-stretches at values i j start part (κs, x, y, d) = d
+stretches at values i j start part (κs, d) = d
 
 -- THE CONVERSES: no more is learnt of the functions than their contracts say. The references may be any
 any : MutBor (List ℤ)
 any = record { ref_ptr = (0, 0); ghost_name = 0; now = [] }
 
 pub built_of : (values before after : List ℤ) (r : Reply) → Builds values before after r → Built values before after r
-built_of values before after r d = (([], ([], tt)), any, any, d)
+built_of values before after r d = (([], ([], tt)), (0, 0), any, d)
 
 pub searched_of : (values index : List ℤ) (i j : ℕ) (r : Reply) → Searches values index i j r → Searched values index i j r
-searched_of values index i j r d = (([], ([], tt)), any, any, d)
+searched_of values index i j r d = (([], ([], tt)), (0, 0), (0, 0), d)
 
 pub stretched_of : (at : ℕ × ℕ) (values : List ℤ) (i j : ℕ) (start : ℕ × ℕ) (part : List ℤ) → Stretches at values i j start part → Stretched at values i j start part
-stretched_of at values i j start part d = (([], tt), 0, 0, d)
+stretched_of at values i j start part d = (([], tt), d)
 
 -- POINT 3
 pub point_3 : Point3 Built Searched Stretched

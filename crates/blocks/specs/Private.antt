@@ -1,9 +1,9 @@
 -- The contracts of the private functions: what is found in a part of a take, and how the parts of a range come together.
-use Rattle.std.specs.Prelude.{◌≡◌, cond, List, ℕ, ◌*◌, ◌/◌, ◌<◌, ◌≤◌, eqb, ltb, ℤ, length, take}
+use Rattle.std.specs.Prelude.{◌≡◌, cond, List, ℕ, ◌*◌, ◌<◌, ◌≤◌, ltb, ℤ, length, take}
 use Rattle.history.specs.Minima.{takes_over}
 use Rattle.blocks.specs.declared.Offset.{Offset}
 use Rattle.blocks.specs.declared.Found.{Found}
-use Rattle.blocks.specs.Takes.{minimum_from, block_count, block_minima}
+use Rattle.blocks.specs.Takes.{minimum_from, block_minima}
 
 -- `place_of`: an offset of the values; where v is the least of them, the earliest where it stands
 pub record PlaceOf (values : List ℤ) (v : ℤ) (r : Offset) : Type 0 where

@@ -1,6 +1,5 @@
 use mathlib.Core.Path.{◌≡◌, refl, sym, ap, ◌∙◌}
 use mathlib.Core.List.{List}
-use Prim.Native.Nat.{◌-◌}
 use native.Mathlib.Omega.{arith}
 use lib.IntN.{ℤ}
 use lib.ListN.{length, length-set}
@@ -37,7 +36,7 @@ loop-b-preserved c =
     let vs = a.take.now in
     let b = c.loop-b.b in
     let v : to_z w32 (of_z w32 c.least_value.result) ≡ (minimum_from (block_of vs b) 0).value =
-    to_z-of_z (sfits_of c.least_value.type-inv) ∙ c.least_value.ensures ∙ ap (λ (xs : List ℤ). (minimum_from xs 0).value) c.block.ensures in (
+    to_z-of_z {w = w32} (sfits_of c.least_value.type_inv) ∙ c.least_value.ensures ∙ ap (λ (xs : List ℤ). (minimum_from xs 0).value) c.block.ensures in (
       omega arith,
       length-set c.loop-b.index b _ ∙ c.loop-b.invariant.1,
       built_more vs c.loop-b.index b _ (omega (arith, c.loop-b.invariant.1)) (omega arith) v c.loop-b.invariant.2,

@@ -3,7 +3,8 @@ use Prim.Native.Nat.{◌+◌}
 use native.Mathlib.Omega.{arith}
 use mathlib.Core.Path.{◌≡◌}
 use mir.Syntax.{w32}
-use mir.Val.{to_z, of_z}
+use mir.Val.{to_z, of_z, SFits}
+use Rattle.std.proofs.Common.{rules}
 use mir.Facts.{to_z-of_z}
 use Rattle.blocks.proofs.Covering.{length_block, of_blocks}
 use Rattle.blocks.proofs.least_of_blocks.Goals as goal
@@ -16,8 +17,9 @@ place_of-place-requires c =
 pub returns : goal.returns
 returns c =
     let a = c.args in
+    let fits : SFits w32 c.least_of_many-entry.result.value = search rules in
     let same : to_z w32 (of_z w32 c.least_of_many-entry.result.value) ≡ c.least_of_many-entry.result.value =
-    to_z-of_z (record { sfits = c.struct_told-1.given.0.1 }) in
+    to_z-of_z fits in
     rw same
     (of_blocks
     a.take.now

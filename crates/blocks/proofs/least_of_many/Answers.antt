@@ -1,8 +1,7 @@
 use mathlib.Core.Path.{◌≡◌, sym, ap, ◌∙◌}
 use mathlib.Core.Bool.{Bool, true, false, cond}
 use mathlib.Core.List.{List}
-use mathlib.Core.Logic.{⊎_elim}
-use Prim.Native.Nat.{◌+◌, ◌-◌}
+use Prim.Native.Nat.{◌+◌}
 use native.Mathlib.Omega.{arith}
 use lib.IntN.{ℤ}
 use mir.Syntax.{w32}
@@ -14,6 +13,7 @@ use Rattle.blocks.proofs.Indexes.{Leading, leading_one, leading_more, leading_al
 use Rattle.blocks.proofs.Covering.{length_block}
 use borrow.Author.Rules.{sfits_of}
 use Rattle.blocks.proofs.least_of_many.Goals as goal
+use Rattle.blocks.proofs.least_of_many.Goals.{then-takes_over, else-takes_over}
 
 pub block-requires : goal.block-requires
 block-requires c = omega (arith, c.requires)
@@ -27,7 +27,7 @@ pub loop-b-init : goal.loop-b-init
 loop-b-init c =
     let vs = c.args.values.now in
     let v : to_z w32 (of_z w32 c.least_value-value.result) ≡ (minimum_from (block_of vs 0) 0).value =
-    to_z-of_z (sfits_of c.least_value-value.type-inv) ∙ c.least_value-value.ensures ∙ ap (λ (xs : List ℤ). (minimum_from xs 0).value) c.block.ensures in
+    to_z-of_z {w = w32} (sfits_of c.least_value-value.type_inv) ∙ c.least_value-value.ensures ∙ ap (λ (xs : List ℤ). (minimum_from xs 0).value) c.block.ensures in
     (omega (arith, c.requires), leading_one vs _ c.requires v)
 
 pub block-requires-in-loop-b : goal.block-requires-in-loop-b
@@ -41,13 +41,16 @@ pub loop-b-preserved : goal.loop-b-preserved
 loop-b-preserved c =
     let vs = c.args.values.now in
     let v = c.least_value-v in
-    let read : to_z w32 (of_z w32 v.result) ≡ v.result = to_z-of_z (sfits_of v.type-inv) in
+    let read : to_z w32 (of_z w32 v.result) ≡ v.result = to_z-of_z {w = w32} (sfits_of v.type_inv) in
     let new : v.result ≡ (minimum_from (block_of vs c.loop-b.b) 0).value = v.ensures ∙ ap (λ (xs : List ℤ). (minimum_from xs 0).value) c.block-in-loop-b.ensures in
     let asked : takes_over v.result (to_z w32 c.loop-b.value-bits) ≡ c.takes_over.result = rw read at (sym c.takes_over.ensures) in
     let more : (t : Bool) → takes_over v.result (to_z w32 c.loop-b.value-bits) ≡ t → Leading vs (c.loop-b.b + 1) (cond t c.loop-b.b c.loop-b.at) (cond t v.result (to_z w32 c.loop-b.value-bits)) = λ t q.
     leading_more vs c.loop-b.b c.loop-b.at (to_z w32 c.loop-b.value-bits) v.result t (omega (arith, c.block_count-blocks.ensures)) c.loop-b.invariant.1 new q in (
       omega (arith, c.block_count-blocks.ensures),
-      ⊎_elim (λ w. rw (w.1, w.2, read) (more true (asked ∙ w.0.taken))) (λ w. rw (w.1, w.2) (more false (asked ∙ w.0.left))) c.if-takes_over.branch,
+      elim c.if-takes_over.branch [
+        | then-takes_over w ↦ rw (w.value-is, w.at-is, read) (more true (asked ∙ w.if-takes_over.true))
+        | else-takes_over w ↦ rw (w.value-is, w.at-is) (more false (asked ∙ w.if-takes_over.false))
+      ],
     )
 
 pub block-requires-2 : goal.block-requires-2

@@ -1,26 +1,24 @@
 use mathlib.Core.Path.{◌≡◌, sym, ap, ◌∙◌}
-use Prim.Native.Nat.{ℕ, ◌-◌}
+use Prim.Native.Nat.{ℕ}
 use native.Mathlib.Omega.{arith}
-use borrow.Author.Rules.{sfits_of}
+use Rattle.std.proofs.Common.{rules}
 use lib.IntN.{pos}
 use lib.ListN.{get_or}
 use mir.Syntax.{w32}
-use mir.Val.{to_z, of_z}
+use mir.Val.{to_z, of_z, SFits}
 use mir.Facts.{to_z-of_z}
 use Rattle.blocks.specs.Takes.{minimum_from}
 use Rattle.blocks.proofs.Founds.{found_inside}
 use Rattle.blocks.proofs.Scanning.{stands, none_before}
 use Rattle.blocks.proofs.place_of.Goals as goal
 
-pub loop-offset-init : goal.loop-offset-init
-loop-offset-init c = (omega arith, λ e. omega arith)
-
 pub returns-then-values-offset : goal.returns-then-values-offset
 returns-then-values-offset c =
     let a = c.args in
     let vs = a.values.now in
     let v = to_z-of_z c.ranges.v in
-    let there : get_or vs c.loop-offset.offset (pos 0) ≡ a.v = sym (to_z-of_z (sfits_of c.t7-1.given)) ∙ ap (to_z w32) c.if-values-offset.true ∙ v in
+    let fits : SFits w32 (get_or vs c.loop-offset.offset (pos 0)) = search rules in
+    let there : get_or vs c.loop-offset.offset (pos 0) ≡ a.v = sym (to_z-of_z fits) ∙ ap (to_z w32) c.if-values-offset.true ∙ v in
     record {
       inside = omega arith;
       stands = λ e.
