@@ -74,8 +74,8 @@ def cases():
     """The definition's cases: for an event and a standing, the refusal's name or None, and the standing after. Each stands under its sentence."""
     source = text(DEFINITION)
     found, read = [], {}
-    for line in source[source.index("\nabbrev pub bySection2"):].splitlines():
-        m = re.fullmatch(r"bySection2 Event\.(\w+) Standing\.(\w+) = (?:allowing|refusing Refusal\.(\w+)) Standing\.(\w+)", line)
+    for line in source[source.index("\nabbrev pub by_section_2"):].splitlines():
+        m = re.fullmatch(r"by_section_2 Event\.(\w+) Standing\.(\w+) = (?:allowing|refusing Refusal\.(\w+)) Standing\.(\w+)", line)
         if m:
             found.append((m[1], m[2]))
             read[m[1], m[2]] = (m[3], m[4])
@@ -96,12 +96,12 @@ def code_in_order():
             found += re.findall(r"\b(?:allowing|refusing)\(.*?\)", line)
     if found != [word for sentence, _, step in ORDER for word in [sentence, step]] or re.findall(r"if let (\w+::\w+) =", code) != TESTS:
         wrong.append(f"{CODE}: the steps of `by_section_2` do not stand each under its sentence, in section 2's order")
-    if "bySection2 event standing ⌝ }\n" not in code or "\nghost use Rattle·history·specs.specs.StateVariable.{bySection2};\n" not in text(CODE):
+    if "by_section_2 event standing }\n" not in code or "\nghost use Rattle.history.specs.StateVariable.{by_section_2};\n" not in text(CODE):
         wrong.append(f"{CODE}: the contract of `by_section_2` is not the definition of {DEFINITION}")
 
 
 def numbers():
-    return {name: int(n) for name, n in re.findall(r"^numberOf Refusal\.(\w+) = (\d+)$", text("crates/history/specs/Replies.antt"), re.M)}
+    return {name: int(n) for name, n in re.findall(r"^number_of Refusal\.(\w+) = (\d+)$", text("crates/history/specs/Replies.antt"), re.M)}
 
 
 class Board:
