@@ -17,7 +17,6 @@ use Rattle.layout.specs.Words.{row₀, position, least_word}
 use Rattle.layout.specs.Frames as Frames
 use Rattle.layout.proofs.Written.{each_lane, each_kind}
 use Rattle.layout.proofs.Puts.{puts_lanes}
-use Rattle.table.specs.Marks.{active_below}
 use Rattle.table.proofs.Kept.{active_same}
 use Rattle.ranges.specs.Holding.{Roles, roles_of, marks_in, Laid, Started, Unfinished, Soon, Holds}
 use Rattle.ranges.specs.Private.{Carried, Merged, finishing, Finished}

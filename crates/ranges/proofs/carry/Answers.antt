@@ -45,6 +45,6 @@ pub returns : goal.returns
 returns c =
     record {
       idle = λ n. absurd (n (room (goal.at.returns c).Else-not-has_room) (omega arith));
-      closed = λ e. absurd (c.if-mark-eq0.left e);
+      closed = λ e. absurd (c.if-mark-eq0.false e);
       active = λ s l n. (_, c.append-grown.result, rw (c.read-next.ensures.own (omega arith)) at c.append-grown.ensures, refl);
     }

@@ -17,9 +17,9 @@ returns-in_default c =
 
 pub bounds-area-at-4 : goal.bounds-area-at-4
 bounds-area-at-4 c =
-    simp length-set (omega (arith, c.header-at.ensures.1, c.requires, c.area-1.given))
+    simp length-set (omega (arith, c.header-at.ensures.1, c.requires))
 
 pub returns : goal.returns
 returns c =
-    step_done _ _ _ _ _ _ _ _ _ (c.read-e.ensures.own c.requires) c.header-at.ensures.0 (omega (arith, c.if-rows-left.left)) c.entry_at-low.ensures (ap word_shown c.in-At.is)
+    step_done _ _ _ _ _ _ _ _ _ (c.read-e.ensures.own c.requires) c.header-at.ensures.0 (omega (arith, c.if-rows-left.false)) c.entry_at-low.ensures (ap word_shown c.in-At.is)
     c.up_to_start-word.ensures c.carry.ensures c.advance-top.ensures
