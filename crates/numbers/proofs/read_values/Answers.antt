@@ -1,6 +1,6 @@
 use borrow.Author.Rules.{sfits_of}
 use mathlib.Core.Path.{◌≡◌, refl, ap, ◌∙◌}
-use Prim.Native.Nat.{ℕ, ◌+◌, ◌*◌, ◌-◌}
+use Prim.Native.Nat.{ℕ, ◌+◌, ◌*◌}
 use native.Mathlib.Omega.{arith}
 use lib.ListN.{length-set}
 use mir.Syntax.{w32}
@@ -18,7 +18,7 @@ loop-i-smaller c = simp length-set (omega arith)
 
 pub loop-i-preserved : goal.loop-i-preserved
 loop-i-preserved c =
-    let v : to_z w32 (of_z w32 c.value_at.result) ≡ value_at c.args.bytes.now (c.args.at + 4 * c.loop-i.i) = to_z-of_z (sfits_of c.value_at.type-inv) ∙ c.value_at.ensures in (
+    let v : to_z w32 (of_z w32 c.value_at.result) ≡ value_at c.args.bytes.now (c.args.at + 4 * c.loop-i.i) = to_z-of_z {w = w32} (sfits_of c.value_at.type_inv) ∙ c.value_at.ensures in (
       simp length-set (omega arith),
       simp length-set c.loop-i.invariant.1,
       rw v (values_set c.loop-i.values c.loop-i.i c.args.at c.args.bytes.now (omega arith) c.loop-i.invariant.2),

@@ -1,5 +1,4 @@
 use borrow.Author.Rules.{rules}
-use Prim.Native.Nat.{◌-◌}
 use lib.Seq.{paste-zero}
 use Rattle.text.proofs.Copies.{copied_more, copied_all}
 use Rattle.text.proofs.put.Goals as goal

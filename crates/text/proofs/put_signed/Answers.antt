@@ -24,20 +24,18 @@ put_numbered-requires c =
     omega (arith, c.requires, few (goal.at.put_numbered-requires c).After-magnitude)
 
 pub returns-then-v-lt0 : goal.returns-then-v-lt0
-returns-then-v-lt0 c =
-    (
-      rw (minus_text c.args.v (simp (to_z-of_z, c.ranges.v) at c.if-v-lt0.true), ← (simp (to_z-of_z, c.ranges.v) at c.magnitude.ensures))
-          c.put_numbered.ensures,
-      omega (arith, c.put_numbered.ensures.counts, few (goal.at.returns-then-v-lt0 c).After-magnitude),
-    )
+returns-then-v-lt0 c = (
+  rw (minus_text c.args.v (simp (to_z-of_z, c.ranges.v) at c.if-v-lt0.true), ← (simp (to_z-of_z, c.ranges.v) at c.magnitude.ensures))
+      c.put_numbered.ensures,
+  omega (arith, c.put_numbered.ensures.counts, few (goal.at.returns-then-v-lt0 c).After-magnitude),
+)
 
 pub put_number-requires : goal.put_number-requires
 put_number-requires c =
     omega (arith, c.requires, few-2 (goal.at.put_number-requires c).After-magnitude-2)
 
 pub returns : goal.returns
-returns c =
-    (
-      rw (plain_text c.args.v (simp (to_z-of_z, c.ranges.v) at c.if-v-lt0.false), ← (simp (to_z-of_z, c.ranges.v) at c.magnitude-2.ensures)) c.put_number.ensures,
-      omega (arith, c.put_number.ensures.counts, few-2 (goal.at.returns c).After-magnitude-2),
-    )
+returns c = (
+  rw (plain_text c.args.v (simp (to_z-of_z, c.ranges.v) at c.if-v-lt0.false), ← (simp (to_z-of_z, c.ranges.v) at c.magnitude-2.ensures)) c.put_number.ensures,
+  omega (arith, c.put_number.ensures.counts, few-2 (goal.at.returns c).After-magnitude-2),
+)

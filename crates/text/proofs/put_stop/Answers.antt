@@ -26,8 +26,7 @@ put-requires c =
     omega (arith, c.requires, c.put_numbered-number.ensures.counts, c.put_numbered-number.ensures.long, capped 20 c.args.offset)
 
 pub returns : goal.returns
-returns c =
-    (
-      rw (one c.args.left c.args.offset c.if-left-eq0.false) (then c.put_numbered-number.ensures c.put.ensures),
-      omega (arith, c.put_numbered-number.ensures.counts, c.put.ensures.counts, capped 20 c.args.offset),
-    )
+returns c = (
+  rw (one c.args.left c.args.offset c.if-left-eq0.false) (then c.put_numbered-number.ensures c.put.ensures),
+  omega (arith, c.put_numbered-number.ensures.counts, c.put.ensures.counts, capped 20 c.args.offset),
+)
