@@ -8,7 +8,7 @@ use lib.Dec.{eqb, ltb}
 use lib.IntN.{ℤ, pos, negsuc}
 use lib.ListN.{length, get_or}
 use Rattle.blocks.specs.Takes.{search_refusal, least_of}
-use Rattle.rough.specs.Looks.{Look, Entry, Value, entry_looks, looks, looks_used, known_from, entry_from, ToldReading, figures_after, refused_with, rough_reading, told, wholly_inside}
+use Rattle.rough.specs.Looks.{Look, Entry, Value, entry_looks, looks, looks_used, known_from, entry_from, ToldReading, figures_after, refused_with, rough_reading, wholly_inside}
 use Rattle.rough.specs.Promises.{read_by}
 
 module _ (values index others entries : List ℤ) (i j : ℕ) (long : length values ≡ length others) where

@@ -18,6 +18,7 @@ use Rattle.rough.proofs.Listed.{every_look, partly, not_whole}
 module _ (f : Look → Option ℤ) where
   kept_at : (ls : List Look) (look : Look) (x : ℤ) → Among look ls → f look ≡ some x → (t : ℕ) × (t < length (filter_map f ls)) × (get_or (filter_map f ls) t (pos 0) ≡ x)
   unfolding filter_map Option-elim
+  kept_at [] look x m e = elim m [ ]
   kept_at (l ∷ ls) look x (inl q) e = here (f l) (sym (ap f q) ∙ e)
     where
       here : (o : Option ℤ) → o ≡ some x

@@ -3,13 +3,12 @@ use mathlib.Core.Path.{◌≡◌, refl, ap, ◌∙◌}
 use mathlib.Core.Bool.{Bool, true, false, cond}
 use mathlib.Core.List.{List, [], ◌∷◌, ◌++◌, append-nil}
 use mathlib.Core.Option.{some}
-use Prim.Native.Nat.{◌+◌}
 use native.Mathlib.Omega.{arith}
 use lib.IntN.{ℤ}
 use Rattle.history.specs.declared.Position.{Position}
 use Rattle.history.specs.declared.Minimum.{Minimum}
 use Rattle.history.specs.Minima.{takes_over, lower, next, present_at, minimum}
-use Rattle.history.proofs.Parts.{behind, minimum-behind, minimum-append}
+use Rattle.history.proofs.Parts.{minimum-behind, minimum-append}
 use Rattle.blocks.specs.Takes.{least_of}
 use Rattle.rough.specs.Private.{lower_of}
 

@@ -7,7 +7,7 @@ use mathlib.Core.Option.{Option, none, some, Option-elim, none-ne-some, some-inj
 use Prim.Native.Nat.{ℕ, zero, suc, ◌+◌, ◌*◌, ◌-◌, ◌/◌, ◌<◌, ◌≤◌, min, max}
 use native.Mathlib.Omega.{arith}
 use Rattle.laws.proofs.Tests.{lt_or_ge}
-use Rattle.rough.specs.Looks.{Look, Entry, Value, up_from, wholly_inside, entry_looks, edge_look, value_looks, looks}
+use Rattle.rough.specs.Looks.{Look, Entry, Value, up_from, wholly_inside, entry_looks, edge_look, value_looks}
 use Rattle.rough.specs.Promises.{Partly, Among, Before, InOrder, EveryLook}
 use Rattle.rough.proofs.Orders.{inside, begins_before, ends_behind}
 
@@ -25,6 +25,7 @@ entry_is_value e = true≢false (ap is_entry e)
 
 -- among two lists
 among_left : (x : Look) (xs ys : List Look) → Among x xs → Among x (xs ++ ys)
+among_left x [] ys m = elim m [ ]
 among_left x (y ∷ xs) ys (inl e) = inl e
 among_left x (y ∷ xs) ys (inr m) = inr (among_left x xs ys m)
 
@@ -64,6 +65,7 @@ module _ (f : ℕ → Option Look) where
 
   kept_only : (x : Look) (a c : ℕ) → Among x (filter_map f (up_from a c)) → (k : ℕ) × (a ≤ k) × (k < a + c) × (f k ≡ some x)
   unfolding up_from filter_map Option-elim
+  kept_only x a zero m = elim m [ ]
   kept_only x a (suc c) m = go (λ n. let r = kept_only x (a + 1) c n in (r.0, omega (arith, r.1), omega (arith, r.2), r.3)) (f a) refl m
     where
       go : (Among x (filter_map f (up_from (a + 1) c)) → (k : ℕ) × (a ≤ k) × (k < a + suc c) × (f k ≡ some x)) → (o : Option Look) → f a ≡ o → Among x (Option-elim o (filter_map f (up_from (a + 1) c)) (λ b. b ∷ filter_map f (up_from (a + 1) c)))

@@ -13,7 +13,7 @@ use borrow.Author.Tests.{leb-true, le-leb, lt-leb}
 use Rattle.laws.proofs.Tests.{clash, lt_or_ge}
 use Rattle.blocks.specs.Takes.{block_count, blocks_before}
 use Rattle.blocks.proofs.Covering.{before_end, before_inside}
-use Rattle.rough.specs.Looks.{Look, Value, up_from, wholly_inside, edge_look, value_looks, looks}
+use Rattle.rough.specs.Looks.{Look, Value, up_from, wholly_inside, edge_look, value_looks}
 use Rattle.rough.proofs.Sequences.{up_from_parts, none_kept, all_kept}
 
 -- whether a block is wholly inside

@@ -15,7 +15,6 @@ use Rattle.laws.proofs.Tests.{lt_or_ge}
 use Rattle.blocks.specs.declared.Known.{Known}
 use Rattle.blocks.specs.Takes.{minimum_from, least_of, figure, block_count, blocks_before}
 use Rattle.blocks.proofs.Scanning.{least_some}
-use Rattle.rough.specs.declared.Figures.{Figures}
 use Rattle.rough.specs.declared.Seen.{Seen}
 use Rattle.rough.specs.declared.Entries.{Entries}
 use Rattle.rough.specs.declared.Cuts.{Cuts}

@@ -5,7 +5,6 @@ use mathlib.Core.List.{List, []}
 use Prim.Native.Nat.{ℕ}
 use lib.IntN.{ℤ}
 use contract.Lifetimes.{Lfts}
-use denote.Ref.{MutBor, at_last}
 use Rattle.rough.specs.declared.Reading.{Reading}
 use Rattle.rough.specs.Looks.{rough_reading, told}
 use Rattle.rough.specs.Promises.{ReadSays, Point6}
@@ -15,18 +14,15 @@ use Rattle.rough.proofs.read.Reads as read-reads
 -- what is learnt of `read`, on a `&[i32]` to the values and one to the index, which gave r
 abbrev pub Read : ReadSays
 Read values index i j B r =
-    (κs : Lfts 2) × (x y : MutBor (List ℤ))
-    × read-reads.Learnt κs (at_last x values, (at_last y index, (i, (j, (B, tt))))) r (at_last x values, (at_last y index, (i, (j, (B, tt)))))
+    (κs : Lfts 2) × (x y : ℕ × ℕ)
+    × read-reads.Learnt κs (record { ref_ptr = x; now = values }, (record { ref_ptr = y; now = index }, (i, (j, (B, tt))))) r (record { ref_ptr = x; now = values }, (record { ref_ptr = y; now = index }, (i, (j, (B, tt)))))
 
 pub reads : (values index : List ℤ) (i j B : ℕ) (r : Reading) → Read values index i j B r → told r ≡ rough_reading values index i j B
 reads values index i j B r (κs, x, y, d) = d
 
 -- THE CONVERSE: no more is learnt of the function than its contract says. The references may be any
-any : MutBor (List ℤ)
-any = record { ref_ptr = (0, 0); ghost_name = 0; now = [] }
-
 pub read_of : (values index : List ℤ) (i j B : ℕ) (r : Reading) → told r ≡ rough_reading values index i j B → Read values index i j B r
-read_of values index i j B r d = (([], ([], tt)), any, any, d)
+read_of values index i j B r d = (([], ([], tt)), (0, 0), (0, 0), d)
 
 -- POINT 6
 pub point_6 : Point6 Read

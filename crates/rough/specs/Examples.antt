@@ -1,6 +1,6 @@
 -- Worked examples of rough readings, and of the looks in their order. That the definitions work them out so are the theorems `readings_worked` and `orders_worked` of proofs/Examples; that every call of
 -- the function gives them, `readings_given`.
-use Rattle.std.specs.Prelude.{◌≡◌, List, [], ◌∷◌, ◌++◌, map, ℕ, ◌+◌, ℤ, pos, negsuc, length, replicate}
+use Rattle.std.specs.Prelude.{◌≡◌, List, [], ◌∷◌, ◌++◌, map, ℕ, ℤ, pos, negsuc, length, replicate}
 use Rattle.std.proofs.Math.Option.{Option, none, some}
 use Rattle.blocks.specs.Takes.{block_minima}
 use Rattle.rough.specs.declared.Reading.{Reading}

@@ -5,6 +5,7 @@ use Prim.Native.Nat.{ℕ, ◌+◌, ◌-◌, ◌/◌, ◌<◌, ◌≤◌}
 use native.Mathlib.Omega.{arith}
 use lib.ListN.{length}
 use Rattle.rough.proofs.Readings.{reading, entries_shown, high_shown}
+use mir.Syntax.{w32}
 use mir.Facts.{to_z-of_z}
 use borrow.Author.Rules.{sfits_of}
 use Rattle.rough.proofs.figures_of.Goals as goal
@@ -53,4 +54,4 @@ pub returns : goal.returns
 returns c =
     let a = c.args in
     reading a.take.now a.index.now a.i a.j a.budget c.requires.0 c.requires.1 c.requires.2 c.cut-cuts.result c.cut-cuts.ensures c.look_at_entries-entries.result c.look_at_values-values.result c.lower-high.result
-    c.look_at_entries-entries.ensures c.look_at_values-values.ensures c.lower-high.ensures _ (ap some (to_z-of_z (sfits_of c.low_figure.type-inv)) ∙ c.low_figure.ensures)
+    c.look_at_entries-entries.ensures c.look_at_values-values.ensures c.lower-high.ensures _ (ap some (to_z-of_z {w = w32} (sfits_of c.low_figure.type_inv)) ∙ c.low_figure.ensures)

@@ -25,9 +25,8 @@ pub returns-in-Refused : goal.returns-in-Refused
 returns-in-Refused c =
     let a = c.args in
     let due = search_refusal (length a.take.now) (length a.index.now) a.i a.j in
-    let why = c.?refusal.given in
-    let number = sym (ap due_of why.1) ∙ c.due-refusal.ensures in
-    simp (ne_eqb due 0 (λ z. some_number why.0.0 (number ∙ z))) (ap refused_with number)
+    let number = sym (ap due_of c.in-Refused.is) ∙ c.due-refusal.ensures in
+    simp (ne_eqb due 0 (λ z. some_number c.in-Refused.why (number ∙ z))) (ap refused_with number)
 
 pub returns-in-Nothing : goal.returns-in-Nothing
 returns-in-Nothing c = simp (none_due (goal.at.returns-in-Nothing c).In-Nothing) c.figures_of.ensures
