@@ -1,7 +1,7 @@
 -- The window's oldest position: it is the first whose value has not left, and with each value it stays or moves on by one.
 use mathlib.Core.Path.{◌≡◌, ap}
 use mathlib.Core.Logic.{◌⊎◌, inl, inr, ⊎_elim}
-use Prim.Native.Nat.{ℕ, ◌+◌, ◌-◌, ◌<◌, ◌≤◌}
+use Prim.Native.Nat.{ℕ, ◌+◌, ◌<◌, ◌≤◌}
 use native.Mathlib.Omega.{arith}
 use Rattle.laws.proofs.Tests.{lt_or_ge}
 use Rattle.history.specs.declared.Position.{Position}

@@ -1,12 +1,9 @@
 -- `deque::taken_over` meets its contract: a turn asks about the last entry that is left, and what is left when none of the near ones stays is searched by halves.
-use Prim.Native.Nat.{◌-◌}
-use mir.Syntax.{w32}
-use mir.Val.{to_z}
 use Rattle.deque.proofs.Searching.{Between}
 use Rattle.deque.proofs.taken_over.Given as goal
 
 abbrev pub invariant-loop-near : goal.invariant-loop-near
-invariant-loop-near l = Between l.area l.front l.n (to_z w32 l.v) 0 l.k
+invariant-loop-near l = Between l.area l.front l.n l.v 0 l.k
 
 abbrev pub decreases-loop-near : goal.decreases-loop-near
 decreases-loop-near l = l.near
