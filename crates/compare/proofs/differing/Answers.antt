@@ -1,11 +1,7 @@
-use mathlib.Core.Path.{◌≡◌, refl}
-use mathlib.Core.List.{List}
-use mathlib.Core.Logic.{⊎_elim}
-use Prim.Native.Nat.{ℕ, ◌-◌}
-use native.Mathlib.Omega.{arith}
-use lib.ListN.{get_or}
+use Rattle.std.proofs.Common.{ℕ, ◌+◌, List, get_or, refl, arith}
 use Rattle.compare.proofs.Counting.{none, differs, agrees, few}
 use Rattle.compare.proofs.differing.Goals as goal
+use Rattle.compare.proofs.differing.Goals.{then-a-i, else-a-i}
 
 -- an area's words by their index
 abbrev words : List ℕ → ℕ → ℕ
@@ -15,20 +11,17 @@ pub loop-i-init : goal.loop-i-init
 loop-i-init c = (omega arith, none _ _ 0 refl)
 
 pub overflow_add-count : goal.overflow_add-count
-overflow_add-count c =
-    omega (arith, c.loop-i.invariant, few (words c.args.a.now) (words c.args.b.now) c.loop-i.i)
+overflow_add-count c = omega (arith, c.loop-i.invariant, few (words c.args.a.now) (words c.args.b.now) c.loop-i.i)
 
 pub loop-i-preserved : goal.loop-i-preserved
 loop-i-preserved c =
-    (
+    let a = words c.args.a.now in
+    let b = words c.args.b.now in
+    let i = c.loop-i.i in
+    let below = c.loop-i.invariant.1 in (
       omega arith,
-      ⊎_elim
-          (λ w. rw w.1 (differs (words c.args.a.now) (words c.args.b.now) _ c.loop-i.i _ refl (λ e. omega (arith, e, w.0.taken)) c.loop-i.invariant.1))
-          (λ w. rw w.1 (agrees (words c.args.a.now) (words c.args.b.now) _ c.loop-i.i _ refl (omega (arith, w.0.left)) c.loop-i.invariant.1))
-          c.if-a-i.branch,
+      elim c.if-a-i.branch [
+        | then-a-i w ↦ rw w.count-is (differs a b (i + 1) i _ refl (λ e. omega (arith, e, w.if-a-i.true)) below)
+        | else-a-i w ↦ rw w.count-is (agrees a b (i + 1) i _ refl (omega (arith, w.if-a-i.false)) below)
+      ],
     )
-
-pub returns : goal.returns
-returns c =
-    let e : c.loop-i.i ≡ 577 = omega arith in
-    rw e at c.loop-i.invariant.1

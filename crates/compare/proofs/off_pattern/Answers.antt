@@ -1,19 +1,8 @@
-use mathlib.Core.Path.{◌≡◌}
-use mathlib.Core.List.{List}
-use mathlib.Core.Logic.{⊎_elim}
-use Prim.Native.Nat.{ℕ, ◌+◌, ◌-◌}
-use native.Mathlib.Omega.{arith}
-use lib.ListN.{length, get_or}
-use Rattle.compare.specs.Words.{pattern_at}
+use Rattle.std.proofs.Common.{◌≡◌, ◌+◌, ◌-◌, arith}
 use Rattle.compare.proofs.Counting.{none, differs, agrees, few}
+use Rattle.compare.proofs.off_pattern.Invariants.{from_on, pattern-from}
 use Rattle.compare.proofs.off_pattern.Goals as goal
-
--- an area's words from an index on, and the pattern from there on
-abbrev from_on : List ℕ → ℕ → ℕ → ℕ
-from_on w from k = get_or w (from + k) 0
-
-abbrev pattern-from : ℕ → ℕ → ℕ
-pattern-from from k = pattern_at (from + k)
+use Rattle.compare.proofs.off_pattern.Goals.{then-area-i, else-area-i}
 
 pub loop-i-init : goal.loop-i-init
 loop-i-init c = (omega arith, omega arith, none _ _ _ (omega arith))
@@ -26,18 +15,16 @@ overflow_add-count c =
 pub loop-i-preserved : goal.loop-i-preserved
 loop-i-preserved c =
     let a = c.args in
+    let f = from_on a.area.now a.from in
+    let g = pattern-from a.from in
+    let i = c.loop-i.i in
     let p = c.pattern.ensures in
-    let at : a.from + (c.loop-i.i - a.from) ≡ c.loop-i.i = omega arith in (
+    let below = c.loop-i.invariant.2 in
+    let at : a.from + (i - a.from) ≡ i = omega arith in (
       omega arith,
       omega arith,
-      ⊎_elim
-          (λ w. rw w.1 (differs (from_on a.area.now a.from) (pattern-from a.from) _ (c.loop-i.i - a.from) _ (omega arith) (rw at (λ e. omega (arith, e, w.0.taken, p))) c.loop-i.invariant.2))
-          (λ w. rw w.1 (agrees (from_on a.area.now a.from) (pattern-from a.from) _ (c.loop-i.i - a.from) _ (omega arith) (rw at (omega (arith, w.0.left, p))) c.loop-i.invariant.2))
-          c.if-area-i.branch,
+      elim c.if-area-i.branch [
+        | then-area-i w ↦ rw w.count-is (differs f g (i + 1 - a.from) (i - a.from) _ (omega arith) (rw at (λ e. omega (arith, e, w.if-area-i.true, p))) below)
+        | else-area-i w ↦ rw w.count-is (agrees f g (i + 1 - a.from) (i - a.from) _ (omega arith) (rw at (omega (arith, w.if-area-i.false, p))) below)
+      ],
     )
-
-pub returns : goal.returns
-returns c =
-    let a = c.args in
-    let e : c.loop-i.i - a.from ≡ length a.area.now - a.from = omega arith in
-    rw e at c.loop-i.invariant.2
