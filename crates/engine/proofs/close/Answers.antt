@@ -2,7 +2,6 @@
 -- the mark, which is the law `close_done`, and the standing after is that of a Close of the position that was given.
 use mathlib.Core.Path.{ap, ◌∙◌}
 use native.Mathlib.Omega.{arith}
-use borrow.Author.Tests.{not-true, not-false}
 use Rattle.std.proofs.Common.{rules}
 use Rattle.history.specs.declared.Event.{Event}
 use Rattle.history.specs.declared.Transition.{Transition}
@@ -20,18 +19,18 @@ returns-then-area-words c = rw c.refuse-then-area-words.ensures (does_other _ _ 
 pub returns-then-not-within : goal.returns-then-not-within
 returns-then-not-within c =
     rw c.refuse-then-not-within.ensures
-    (asked_outside _ _ _ (omega arith) (omega arith) _ a_close (c.within.ensures.no (not-true _ c.if-not-within.true-raw)))
+    (asked_outside _ _ _ (omega arith) (omega arith) _ a_close (c.within.ensures.no c.if-not-within.true))
 
 pub returns-then-active-eq0 : goal.returns-then-active-eq0
 returns-then-active-eq0 c = rw c.refuse-then-active-eq0.ensures (close_empty _ _ _ (omega arith) (omega arith) (omega arith))
 
 pub returns-then-not-close : goal.returns-then-not-close
 returns-then-not-close c =
-    rw c.refuse-then-not-close.ensures (close_lost _ _ _ (omega arith) (omega arith) _ _ c.close.ensures (not-true _ c.if-not-close.true-raw))
+    rw c.refuse-then-not-close.ensures (close_lost _ _ _ (omega arith) (omega arith) _ _ c.close.ensures c.if-not-close.true)
 
 pub returns : goal.returns
 returns c =
-    let b = c.within.ensures.yes (not-false _ c.if-not-within.false-raw) in
+    let b = c.within.ensures.yes c.if-not-within.false in
     does_with c.accept.ensures (search rules) (omega arith)
     (ap (λ (x : Transition). x.after) (c.transition_of-transition.ensures ∙ ap (λ (x : Event). transition_of x c.args.s.standing) c.close_event.ensures))
-    (close_done _ _ _ (omega (arith, c.if-words-eq0.false)) (omega (arith, c.if-area-words.false)) _ _ c.close.ensures (not-false _ c.if-not-close.false-raw) b.0 b.1 (omega arith))
+    (close_done _ _ _ (omega (arith, c.if-words-eq0.false)) (omega (arith, c.if-area-words.false)) _ _ c.close.ensures c.if-not-close.false b.0 b.1 (omega arith))

@@ -2,7 +2,6 @@
 -- nothing it is not active. Nothing is written.
 use mathlib.Core.Path.{ap}
 use native.Mathlib.Omega.{arith}
-use borrow.Author.Tests.{not-true, not-false}
 use Rattle.ranges.specs.Calls.{minimum_of}
 use Rattle.engine.proofs.Doing.{does_unopened, does_other}
 use Rattle.engine.proofs.Asked.{a_query, asked_outside, query_lost, query_done}
@@ -17,7 +16,7 @@ returns-then-area-words c = rw c.refuse-then-area-words.ensures (does_other _ _ 
 pub returns-then-not-within : goal.returns-then-not-within
 returns-then-not-within c =
     rw c.refuse-then-not-within.ensures
-    (asked_outside _ _ _ (omega arith) (omega arith) _ a_query (c.within.ensures.no (not-true _ c.if-not-within.true-raw)))
+    (asked_outside _ _ _ (omega arith) (omega arith) _ a_query (c.within.ensures.no c.if-not-within.true))
 
 pub returns-in_default : goal.returns-in_default
 returns-in_default c =
@@ -26,5 +25,5 @@ returns-in_default c =
 
 pub returns : goal.returns
 returns c =
-    let b = c.within.ensures.yes (not-false _ c.if-not-within.false-raw) in
+    let b = c.within.ensures.yes c.if-not-within.false in
     query_done _ _ _ (omega arith) (omega arith) _ c.look_up-found.ensures _ (ap minimum_of c.in-At.is) b.0 b.1

@@ -3,19 +3,18 @@ use mathlib.Core.Path.{refl}
 use native.Mathlib.Omega.{arith}
 use lib.ListN.{length-set}
 use Rattle.layout.specs.Words.{Room}
-use Rattle.table.proofs.Roomy.{roomy, narrow}
 use Rattle.ranges.proofs.carry.Goals as goal
 use Rattle.ranges.proofs.carry.Goals.{Else-not-has_room}
 
 pub returns-then-not-has_room : goal.returns-then-not-has_room
-returns-then-not-has_room c = let no = narrow c.has_room.ensures c.if-not-has_room.true-raw in record { idle = λ n. refl; closed = λ e. refl; active = λ r l. absurd (no r) }
+returns-then-not-has_room c = let no = c.has_room.ensures.no c.if-not-has_room.true in record { idle = λ n. refl; closed = λ e. refl; active = λ r l. absurd (no r) }
 
 pub returns-then-rows-held : goal.returns-then-rows-held
 returns-then-rows-held c = record { idle = λ n. refl; closed = λ e. refl; active = λ r l. absurd (omega arith) }
 
 -- past the test there is room
 room : (c : Else-not-has_room) → Room c.args.area.now c.args.e.rows.0
-room c = roomy c.has_room.ensures c.if-not-has_room.false-raw
+room c = c.has_room.ensures.yes c.if-not-has_room.false
 
 pub overflow_mul-mark : goal.overflow_mul-mark
 overflow_mul-mark c = omega (arith, (room (goal.at.overflow_mul-mark c).Else-not-has_room).few)

@@ -1,17 +1,16 @@
 -- `stack::advance` meets its contract: each way out but the last is one on which there is no next run, or none that starts so low.
 use mathlib.Core.Path.{refl}
 use native.Mathlib.Omega.{arith}
-use borrow.Author.Tests.{not-true, not-false}
 use Rattle.layout.specs.Words.{Room}
 use Rattle.stack.proofs.advance.Goals as goal
 use Rattle.stack.proofs.advance.Goals.{Else-not-has_room}
 
 -- there is room after the test of it
 room : (c : Else-not-has_room) → Room c.args.area.now c.args.height.0
-room c = c.has_room.ensures.yes (not-false _ c.if-not-has_room.false-raw)
+room c = c.has_room.ensures.yes c.if-not-has_room.false
 
 pub returns-then-not-has_room : goal.returns-then-not-has_room
-returns-then-not-has_room c = record { moves = λ o l. absurd (c.has_room.ensures.no (not-true _ c.if-not-has_room.true-raw) o); stays = λ f. refl }
+returns-then-not-has_room c = record { moves = λ o l. absurd (c.has_room.ensures.no c.if-not-has_room.true o); stays = λ f. refl }
 
 pub returns-then-height-t : goal.returns-then-height-t
 returns-then-height-t c = record { moves = λ o l. absurd (omega arith); stays = λ f. refl }

@@ -1,17 +1,16 @@
 -- `stack::entry_at` meets its contract: its two tests are whether there is room and whether the place is below the height.
 use mathlib.Core.Path.{refl}
 use native.Mathlib.Omega.{arith}
-use borrow.Author.Tests.{not-true, not-false}
 use Rattle.layout.specs.Words.{Room}
 use Rattle.stack.proofs.entry_at.Goals as goal
 use Rattle.stack.proofs.entry_at.Goals.{Else-not-has_room}
 
 -- there is room after the test of it
 room : (c : Else-not-has_room) → Room c.args.area.now c.args.height.0
-room c = c.has_room.ensures.yes (not-false _ c.if-not-has_room.false-raw)
+room c = c.has_room.ensures.yes c.if-not-has_room.false
 
 pub returns-then-not-has_room : goal.returns-then-not-has_room
-returns-then-not-has_room c = record { shown = λ o l. absurd (c.has_room.ensures.no (not-true _ c.if-not-has_room.true-raw) o); nothing = λ f. refl }
+returns-then-not-has_room c = record { shown = λ o l. absurd (c.has_room.ensures.no c.if-not-has_room.true o); nothing = λ f. refl }
 
 pub returns-then-height-place : goal.returns-then-height-place
 returns-then-height-place c = record { shown = λ o l. absurd (omega arith); nothing = λ f. refl }

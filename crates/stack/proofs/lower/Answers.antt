@@ -1,18 +1,17 @@
 -- `stack::lower` meets its contract: what it finds parts the entries, and the one there, if there is one below the height, is set and is the top.
 use mathlib.Core.Path.{refl}
 use native.Mathlib.Omega.{arith}
-use borrow.Author.Tests.{not-true, not-false}
 use Rattle.layout.specs.Words.{Room}
 use Rattle.stack.proofs.lower.Goals as goal
 use Rattle.stack.proofs.lower.Goals.{Else-not-has_room}
 
 -- there is room after the test of it
 room : (c : Else-not-has_room) → Room c.args.area.now c.args.height.0
-room c = c.has_room.ensures.yes (not-false _ c.if-not-has_room.false-raw)
+room c = c.has_room.ensures.yes c.if-not-has_room.false
 
 pub returns-then-not-has_room : goal.returns-then-not-has_room
 returns-then-not-has_room c =
-    let no = c.has_room.ensures.no (not-true _ c.if-not-has_room.true-raw) in
+    let no = c.has_room.ensures.no c.if-not-has_room.true in
     record {
       idle = λ f. (refl, refl);
       at = c.args.height;
