@@ -136,8 +136,8 @@ module _ {first words : List ℕ} {h : History} {s : Session} (n : ℕ) (g : Rea
 go_on : {first words : List ℕ} {h : History} {s : Session} (n : ℕ) → Reached Opened Called first s words h → h.words ≡ n → (cs : List (Call model))
     → Made model (Answered Called) n s words cs → Reached Opened Called first (last_session model s cs) (words_after_all model n words cs) (state_after_all model h cs)
 go_on n g e [] m = g
-go_on {h = h} n g e (c ∷ cs) m =
-    go_on n (further n g e c m.0 m.1 (is_own n c.lent) refl) (step_words h (length c.lent) c.command ∙ e) cs m.2
+go_on {words = words} {h = h} n g e (c ∷ cs) m =
+    go_on {words = cond (is_own n c.lent) c.left words} n (further n g e c m.0 m.1 (is_own n c.lent) refl) (step_words h (length c.lent) c.command ∙ e) cs m.2
 
 -- THE NEXT REPLY
 replied : {first words : List ℕ} {h : History} {s : Session} → Run first words h s → (c : Command) (lent left : List ℕ) (r : Answer)

@@ -6,7 +6,7 @@ use mathlib.Core.List.{List, []}
 use mathlib.Core.Logic.{◌⊎◌, inl, inr}
 use Prim.Native.Nat.{ℕ}
 use contract.Lifetimes.{Lfts}
-use denote.Ref.{MutBor, at_last}
+use denote.Ref.{MutBor, at_last, as_bor}
 use Rattle.history.specs.declared.Session.{Session}
 use Rattle.history.specs.declared.Command.{Command}
 use Rattle.history.specs.declared.Command.TheVariants.{Value, Mark, Query, Close}
@@ -36,7 +36,7 @@ ByOwn s (Value v) lent left r =
 ByOwn s Mark lent left r =
     (κs : Lfts 1) × (x : MutBor (List ℕ)) × mark-reads.Learnt κs (s, (at_last x lent, tt)) r (s, (at_last x left, tt))
 ByOwn s (Query i) lent left r =
-    (κs : Lfts 1) × (x : MutBor (List ℕ)) × query-reads.Learnt κs (s, (at_last x lent, (i, tt))) r (s, (at_last x lent, (i, tt))) × (left ≡ lent)
+    (κs : Lfts 1) × (x : MutBor (List ℕ)) × query-reads.Learnt κs (s, (as_bor (at_last x lent), (i, tt))) r (s, (as_bor (at_last x lent), (i, tt))) × (left ≡ lent)
 ByOwn s (Close i) lent left r =
     (κs : Lfts 1) × (x : MutBor (List ℕ)) × close-reads.Learnt κs (s, (at_last x lent, (i, tt))) r (s, (at_last x left, (i, tt)))
 

@@ -1,9 +1,15 @@
 -- `engine::apply` meets its contract. Each arm knows which command it has, and calls the function whose contract is the same of that command.
-use mir.Facts.{to_z-of_z}
+use mathlib.Core.Path.{◌≡◌}
+use lib.IntN.{ℤ}
+use mir.Syntax.{w32}
+use mir.Val.{to_z, of_z}
+use Rattle.std.proofs.Common.{rules}
 use Rattle.engine.proofs.apply.Goals as goal
 
 pub returns-in-Value : goal.returns-in-Value
-returns-in-Value c = rw c.in-Value.is (rw (to_z-of_z (record { sfits = c.?known-told.given.0.1 })) at c.value.ensures)
+returns-in-Value c =
+    let e : ◌≡◌ {A = ℤ} (to_z w32 (of_z w32 c.in-Value.v)) c.in-Value.v = search rules in
+    rw c.in-Value.is (rw e at c.value.ensures)
 
 pub returns-in-Mark : goal.returns-in-Mark
 returns-in-Mark c = rw c.in-Mark.is c.mark.ensures

@@ -3,7 +3,7 @@
 use mathlib.Core.Path.{ap, ◌∙◌}
 use native.Mathlib.Omega.{arith}
 use borrow.Author.Tests.{not-true, not-false}
-use mir.Facts.{to_z-of_z}
+use Rattle.std.proofs.Common.{rules}
 use Rattle.history.specs.declared.Event.{Event}
 use Rattle.history.specs.declared.Transition.{Transition}
 use Rattle.history.specs.Standings.{transition_of}
@@ -32,6 +32,6 @@ returns-then-not-close c =
 pub returns : goal.returns
 returns c =
     let b = c.within.ensures.yes (not-false _ c.if-not-within.false-raw) in
-    does_with c.accept.ensures (to_z-of_z (record { sfits = c.struct_told-1.given.1.1.1.0.1 })) (omega arith)
+    does_with c.accept.ensures (search rules) (omega arith)
     (ap (λ (x : Transition). x.after) (c.transition_of-transition.ensures ∙ ap (λ (x : Event). transition_of x c.args.s.standing) c.close_event.ensures))
     (close_done _ _ _ (omega (arith, c.if-words-eq0.false)) (omega (arith, c.if-area-words.false)) _ _ c.close.ensures (not-false _ c.if-not-close.false-raw) b.0 b.1 (omega arith))

@@ -2,7 +2,7 @@
 -- position joins the marks, which is the law `mark_done`, with the minimum that `at_present` makes of the session.
 use mathlib.Core.Path.{refl}
 use native.Mathlib.Omega.{arith}
-use mir.Facts.{to_z-of_z}
+use Rattle.std.proofs.Common.{rules}
 use Rattle.engine.proofs.Doing.{does_with}
 use Rattle.engine.proofs.Marking.{mark_full, mark_foreign, mark_done}
 use Rattle.engine.proofs.mark_allowed.Goals as goal
@@ -20,5 +20,5 @@ returns-then-active-ge-MOST_MARKS c =
 pub returns : goal.returns
 returns c =
     let p = c.requires in
-    does_with c.accept.ensures (to_z-of_z (record { sfits = c.struct_told-1.given.1.1.1.0.1 })) (omega arith) refl
+    does_with c.accept.ensures (search rules) (omega arith) refl
     (mark_done _ _ p.0 p.1 _ p.2 _ (omega arith) (omega arith) (rw c.at_present.ensures at c.mark.ensures))

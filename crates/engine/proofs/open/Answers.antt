@@ -8,4 +8,4 @@ pub returns-then-n-lt576 : goal.returns-then-n-lt576
 returns-then-n-lt576 c = open_refused _ (omega arith)
 
 pub returns : goal.returns
-returns c = open_done _ _ _ _ (omega arith) (omega arith) c.limit_of.ensures «After-open».«open».ensures
+returns c = open_done _ _ _ _ (omega arith) (omega arith) c.limit_of.ensures c.open.ensures

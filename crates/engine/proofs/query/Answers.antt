@@ -17,7 +17,7 @@ returns-then-area-words c = rw c.refuse-then-area-words.ensures (does_other _ _ 
 pub returns-then-not-within : goal.returns-then-not-within
 returns-then-not-within c =
     rw c.refuse-then-not-within.ensures
-    (asked_outside _ _ _ (omega arith) (omega arith) _ a_query (c.within.ensures.no (not-true _ c.if-not-within.taken)))
+    (asked_outside _ _ _ (omega arith) (omega arith) _ a_query (c.within.ensures.no (not-true _ c.if-not-within.true-raw)))
 
 pub returns-in_default : goal.returns-in_default
 returns-in_default c =
@@ -26,5 +26,5 @@ returns-in_default c =
 
 pub returns : goal.returns
 returns c =
-    let b = c.within.ensures.yes (not-false _ c.if-not-within.left) in
+    let b = c.within.ensures.yes (not-false _ c.if-not-within.false-raw) in
     query_done _ _ _ (omega arith) (omega arith) _ c.look_up-found.ensures _ (ap minimum_of c.in-At.is) b.0 b.1
