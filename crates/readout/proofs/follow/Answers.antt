@@ -1,6 +1,5 @@
 use borrow.Author.Rules.{sfits_of}
 use mathlib.Core.Path.{◌≡◌}
-use Prim.Native.Nat.{◌-◌}
 use native.Mathlib.Omega.{arith}
 use mir.Syntax.{w32}
 use mir.Val.{to_z, of_z}
@@ -24,7 +23,7 @@ perform-progress-requires c =
 
 pub loop-i-preserved : goal.loop-i-preserved
 loop-i-preserved c =
-    let e : to_z w32 (of_z w32 c.value_at-v.result) ≡ c.value_at-v.result = to_z-of_z (sfits_of c.value_at-v.type-inv) in
+    let e : to_z w32 (of_z w32 c.value_at-v.result) ≡ c.value_at-v.result = to_z-of_z {w = w32} (sfits_of c.value_at-v.type_inv) in
     reached_more c.loop-i.invariant (omega (arith, c.loop-i-test.true, c.requires.0)) c.value_at-v.ensures
     (rw e at c.perform-progress.ensures)
 

@@ -31,20 +31,19 @@ end-requires c =
     )
 
 pub returns : goal.returns
-returns c =
-    (
-      whole (rw c.number_at.ensures at «After-open».«open».ensures) c.follow-progress.ensures c.opening-start.ensures.0 c.put_stop-stopped.ensures.0 c.end.ensures.0,
-      counted c.end.result c.end.new.out
-          (omega (
-            arith,
-            c.requires.2,
-            c.opening-start.ensures.1,
-            c.opening-start.ensures.0.long,
-            c.follow-progress.ensures.fits,
-            c.follow-progress.ensures.prints.long,
-            c.put_stop-stopped.ensures.1,
-            c.put_stop-stopped.ensures.0.long,
-            c.end.ensures.1,
-            c.end.ensures.0.long,
-          )),
-    )
+returns c = (
+  whole (rw c.number_at.ensures at c.open-opened.ensures) c.follow-progress.ensures c.opening-start.ensures.0 c.put_stop-stopped.ensures.0 c.end.ensures.0,
+  counted c.end.result c.end.new.out
+      (omega (
+        arith,
+        c.requires.2,
+        c.opening-start.ensures.1,
+        c.opening-start.ensures.0.long,
+        c.follow-progress.ensures.fits,
+        c.follow-progress.ensures.prints.long,
+        c.put_stop-stopped.ensures.1,
+        c.put_stop-stopped.ensures.0.long,
+        c.end.ensures.1,
+        c.end.ensures.0.long,
+      )),
+)

@@ -10,7 +10,7 @@ use Rattle.readout.proofs.write.Goals as goal
 pub returns-then-bytes-le65536 : goal.returns-then-bytes-le65536
 returns-then-bytes-le65536 c =
     let e = c.play.ensures in
-    (e.0 ∙ ap printed_of (sym (take_all 65536 c.args.bytes.now (search rules))), e.1)
+    record { out_after = e.0 ∙ ap printed_of (sym (take_all 65536 c.args.bytes.now (search rules))); prefix_len = e.1 }
 
 pub slice_bounds-play-end-2 : goal.slice_bounds-play-end-2
 slice_bounds-play-end-2 c = simp length-take (omega arith)
@@ -19,4 +19,4 @@ pub play-requires-2 : goal.play-requires-2
 play-requires-2 c = (simp length-take (omega arith), search rules)
 
 pub returns : goal.returns
-returns c = c.play-2.ensures
+returns c = record { out_after = c.play-2.ensures.0; prefix_len = c.play-2.ensures.1 }

@@ -26,8 +26,7 @@ put-requires c =
     )
 
 pub returns : goal.returns
-returns c =
-    (
-      then c.put_numbered-first.ensures (then c.put_numbered-second.ensures c.put.ensures),
-      omega (arith, c.put_numbered-first.ensures.counts, c.put_numbered-second.ensures.counts, c.put.ensures.counts, capped 20 c.args.read, capped 20 c.args.accepted),
-    )
+returns c = (
+  then c.put_numbered-first.ensures (then c.put_numbered-second.ensures c.put.ensures),
+  omega (arith, c.put_numbered-first.ensures.counts, c.put_numbered-second.ensures.counts, c.put.ensures.counts, capped 20 c.args.read, capped 20 c.args.accepted),
+)

@@ -29,8 +29,7 @@ put-requires c =
     omega (arith, c.requires.1, few (goal.at.put-requires c).Start, c.put_number-number.ensures.counts, c.put_number-number.ensures.long, c.put-space.ensures.counts, c.put-space.ensures.long, c.put_reply-said.ensures.0.long, c.put_reply-said.ensures.1)
 
 pub returns : goal.returns
-returns c =
-    (
-      then c.put_number-number.ensures (then c.put-space.ensures (then c.put_reply-said.ensures.0 c.put.ensures)),
-      omega (arith, few (goal.at.returns c).Start, c.put_number-number.ensures.counts, c.put-space.ensures.counts, c.put_reply-said.ensures.1, c.put.ensures.counts),
-    )
+returns c = (
+  then c.put_number-number.ensures (then c.put-space.ensures (then c.put_reply-said.ensures.0 c.put.ensures)),
+  omega (arith, few (goal.at.returns c).Start, c.put_number-number.ensures.counts, c.put-space.ensures.counts, c.put_reply-said.ensures.1, c.put.ensures.counts),
+)
