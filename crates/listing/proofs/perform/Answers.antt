@@ -2,7 +2,6 @@
 use borrow.Author.Rules.{rules}
 use mathlib.Core.Path.{◌≡◌, sym, ap, ◌∙◌}
 use mathlib.Core.List.{List}
-use mathlib.Core.Logic.{⊎_elim}
 use Prim.Native.Nat.{ℕ}
 use native.Mathlib.Omega.{arith}
 use lib.IntN.{ℤ}
@@ -13,7 +12,7 @@ use mir.Val.{SFits}
 use mir.Facts.{to_z-of_z}
 use Rattle.listing.proofs.Requests.{searched, stretched, looked, entered}
 use Rattle.listing.proofs.perform.Goals as goal
-use Rattle.listing.proofs.perform.Goals.{Joined-entry-index}
+use Rattle.listing.proofs.perform.Goals.{Joined-entry-index, then-entry-index, else-entry-index}
 
 -- the number is one of 32 bits
 fits : (c : Joined-entry-index) → SFits w32 c.in-Set.value
@@ -25,7 +24,10 @@ altered c =
     let index : List ℤ = c.args.index.now in
     let entry : ℕ = c.in-Set.entry in
     let v : ℤ = c.in-Set.value in
-    ⊎_elim (λ w. w.1 ∙ ap (set index entry) (to_z-of_z (fits c))) (λ w. w.1 ∙ sym (set_out index entry v (omega (arith, w.0.left)))) c.if-entry-index.branch
+    elim c.if-entry-index.branch [
+      | then-entry-index w ↦ w.index-is ∙ ap (set index entry) (to_z-of_z (fits c))
+      | else-entry-index w ↦ w.index-is ∙ sym (set_out index entry v (omega (arith, w.if-entry-index.false)))
+    ]
 
 pub returns-in-Search : goal.returns-in-Search
 returns-in-Search c =

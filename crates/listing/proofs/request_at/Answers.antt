@@ -1,7 +1,6 @@
 -- `listing::request_at` meets its contract: where fewer than 13 bytes are left there is no request; else each arm knows the kind, and the numbers are those that stand behind it.
 use borrow.Author.Rules.{sfits_of}
-use borrow.Author.Tests.{ne_eqb}
-use mathlib.Core.Path.{◌≡◌, refl, sym, ◌∙◌}
+use mathlib.Core.Path.{◌≡◌, sym, ◌∙◌}
 use Prim.Native.Nat.{ℕ}
 use native.Mathlib.Omega.{arith}
 use lib.ListN.{get_or}
@@ -34,10 +33,5 @@ returns-in-3 c = sym (known (goal.at.returns-in-3 c).After-number_at-c 3 c.in-3.
 
 pub returns-in-4 : goal.returns-in-4
 returns-in-4 c =
-    let e : to_z w32 (of_z w32 c.?Signed-of.result) ≡ signed_of c.number_at-b.result = to_z-of_z (sfits_of c.?Signed-of.type-inv) ∙ c.?Signed-of.ensures in
+    let e : to_z w32 (of_z w32 c.signed_of.result) ≡ signed_of c.number_at-b.result = to_z-of_z {w = w32} (sfits_of c.signed_of.type_inv) ∙ c.signed_of.ensures in
     rw e (sym (known (goal.at.returns-in-4 c).After-number_at-c 4 c.in-4.is))
-
-pub returns-in_default : goal.returns-in_default
-returns-in_default c =
-    let n = c.?match.rest in
-    sym (known (goal.at.returns-in_default c).After-number_at-c _ refl ∙ simp (ne_eqb _ 1 n.0.0.0.1, ne_eqb _ 2 n.0.0.1, ne_eqb _ 3 n.0.1, ne_eqb _ 4 n.1))

@@ -5,22 +5,22 @@ use native.Mathlib.Omega.{arith}
 use lib.ListN.{length}
 use Rattle.listing.proofs.Whole.{whole}
 use Rattle.listing.proofs.run.Goals as goal
-use Rattle.listing.proofs.run.Goals.{After-index-1}
+use Rattle.listing.proofs.run.Goals.{After-build-built}
 
 -- an index that is built has as many entries as before
-few : (c : After-index-1) → length c.build.new.index ≤ 256
-few c = omega (arith, c.requires.0.few, c.index-1.given)
+few : (c : After-build-built) → length c.build.new.index ≤ 256
+few c = omega (arith, c.requires.0.few, c.build.auto.index)
 
 pub build-built-requires : goal.build-built-requires
 build-built-requires c = omega (arith, c.requires.2)
 
 pub index-listed-requires : goal.index-listed-requires
 index-listed-requires c =
-    omega (arith, c.requires.2, few (goal.at.index-listed-requires c).After-index-1, c.build-built.ensures.1, c.build-built.ensures.0.long)
+    omega (arith, c.requires.2, few (goal.at.index-listed-requires c).After-build-built, c.build-built.ensures.1, c.build-built.ensures.0.long)
 
 pub follow-progress-requires : goal.follow-progress-requires
 follow-progress-requires c =
-    (c.requires.0.within, c.requires.1, omega (arith, c.requires.2, few (goal.at.follow-progress-requires c).After-index-1, c.build-built.ensures.1, c.build-built.ensures.0.long, c.index-listed.ensures.1, c.index-listed.ensures.0.long))
+    (c.requires.0.within, c.requires.1, omega (arith, c.requires.2, few (goal.at.follow-progress-requires c).After-build-built, c.build-built.ensures.1, c.build-built.ensures.0.long, c.index-listed.ensures.1, c.index-listed.ensures.0.long))
 
 pub overflow_mul-at : goal.overflow_mul-at
 overflow_mul-at c = record { fits = omega (arith, c.follow-progress.ensures.within) }
@@ -36,7 +36,7 @@ put_stop-stopped-requires c =
     omega (
       arith,
       c.requires.2,
-      few (goal.at.put_stop-stopped-requires c).After-index-1,
+      few (goal.at.put_stop-stopped-requires c).After-build-built,
       c.build-built.ensures.1,
       c.build-built.ensures.0.long,
       c.index-listed.ensures.1,
@@ -50,7 +50,7 @@ end-requires c =
     omega (
       arith,
       c.requires.2,
-      few (goal.at.end-requires c).After-index-1,
+      few (goal.at.end-requires c).After-build-built,
       c.build-built.ensures.1,
       c.build-built.ensures.0.long,
       c.index-listed.ensures.1,
@@ -73,7 +73,7 @@ returns c =
     (omega (
       arith,
       c.requires.2,
-      few (goal.at.returns c).After-index-1,
+      few (goal.at.returns c).After-build-built,
       c.build-built.ensures.1,
       c.build-built.ensures.0.long,
       c.index-listed.ensures.1,

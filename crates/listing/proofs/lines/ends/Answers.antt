@@ -1,5 +1,5 @@
 -- `listing::lines::ends` meets its contract: of no values nothing is written; else the texts of the first and of the last are put one after the other.
-use borrow.Author.Rules.{sfits_of}
+use borrow.Author.Rules.{rules}
 use borrow.Author.Tests.{eq-eqb, ne_eqb}
 use mathlib.Core.Path.{◌≡◌}
 use mathlib.Core.List.{List}
@@ -8,7 +8,7 @@ use native.Mathlib.Omega.{arith}
 use lib.IntN.{ℤ, pos}
 use lib.ListN.{length, get_or}
 use mir.Syntax.{w32}
-use mir.Val.{to_z, of_z}
+use mir.Val.{to_z, of_z, SFits}
 use mir.Facts.{to_z-of_z}
 use Rattle.text.proofs.Texts.{nothing, then}
 use Rattle.listing.proofs.lines.ends.Goals as goal
@@ -20,8 +20,10 @@ returns-then-part-eq0 c =
 pub returns : goal.returns
 returns c =
     let part : List ℤ = c.args.part.now in
-    let first : to_z w32 (of_z w32 (get_or part 0 (pos 0))) ≡ get_or part 0 (pos 0) = to_z-of_z (sfits_of c.put_value-arg-2-1.given) in
-    let last : to_z w32 (of_z w32 (get_or part (length part - 1) (pos 0))) ≡ get_or part (length part - 1) (pos 0) = to_z-of_z (sfits_of c.put_value-arg-4-1.given) in (
+    let fits-first : SFits w32 (get_or part 0 (pos 0)) = search rules in
+    let fits-last : SFits w32 (get_or part (length part - 1) (pos 0)) = search rules in
+    let first : to_z w32 (of_z w32 (get_or part 0 (pos 0))) ≡ get_or part 0 (pos 0) = to_z-of_z fits-first in
+    let last : to_z w32 (of_z w32 (get_or part (length part - 1) (pos 0))) ≡ get_or part (length part - 1) (pos 0) = to_z-of_z fits-last in (
       simp (ne_eqb (length part) 0 c.if-part-eq0.false) (then (rw first at c.put_value-first.ensures.0) (rw last at c.put_value.ensures.0)),
       omega (arith, c.put_value-first.ensures.1, c.put_value.ensures.1),
     )

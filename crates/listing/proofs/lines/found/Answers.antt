@@ -18,8 +18,7 @@ put_numbered-requires c =
     omega (arith, c.requires, c.put_value-value.ensures.0.long, c.put_value-value.ensures.1, capped 20 c.args.found.place.0)
 
 pub returns : goal.returns
-returns c =
-    (
-      then (simp (to_z-of_z, fits (goal.at.returns c).Start) at c.put_value-value.ensures.0) c.put_numbered.ensures,
-      omega (arith, c.put_value-value.ensures.1, c.put_numbered.ensures.counts, capped 20 c.args.found.place.0),
-    )
+returns c = (
+  then (simp (to_z-of_z, fits (goal.at.returns c).Start) at c.put_value-value.ensures.0) c.put_numbered.ensures,
+  omega (arith, c.put_value-value.ensures.1, c.put_numbered.ensures.counts, capped 20 c.args.found.place.0),
+)

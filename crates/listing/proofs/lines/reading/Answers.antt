@@ -49,11 +49,10 @@ put-requires c =
     omega (arith, c.requires, few (goal.at.put-requires c).After-number, c.put_number-number.ensures.counts, c.put_number-number.ensures.long)
 
 pub returns-in-Figures : goal.returns-in-Figures
-returns-in-Figures c =
-    (
-      rw c.in-Figures.is (figures-told c.in-Figures.figures c.put_numbered-looks.ensures c.figure-shown.ensures.0 (simp (to_z-of_z, fits (goal.at.returns-in-Figures c).In-Figures) at c.put_value.ensures.0)),
-      omega (arith, capped 20 c.in-Figures.figures.looks, c.put_numbered-looks.ensures.counts, c.figure-shown.ensures.1, c.put_value.ensures.1),
-    )
+returns-in-Figures c = (
+  rw c.in-Figures.is (figures-told c.in-Figures.figures c.put_numbered-looks.ensures c.figure-shown.ensures.0 (simp (to_z-of_z, fits (goal.at.returns-in-Figures c).In-Figures) at c.put_value.ensures.0)),
+  omega (arith, capped 20 c.in-Figures.figures.looks, c.put_numbered-looks.ensures.counts, c.figure-shown.ensures.1, c.put_value.ensures.1),
+)
 
 pub returns-in-Refused : goal.returns-in-Refused
 returns-in-Refused c =

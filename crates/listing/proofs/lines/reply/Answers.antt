@@ -25,11 +25,10 @@ found-requires c =
     omega (arith, c.requires, few (goal.at.found-requires c).After-reply_number, c.put_number-number.ensures.counts, c.put_number-number.ensures.long)
 
 pub returns-in-Lowest : goal.returns-in-Lowest
-returns-in-Lowest c =
-    (
-      shows found_text _ c.reply_number.ensures (ap (λ («After-reply» : Reply). (told «After-reply»).shown) c.in-Lowest.is) c.put_number-number.ensures c.found.ensures.0,
-      omega (arith, few (goal.at.returns-in-Lowest c).After-reply_number, c.put_number-number.ensures.counts, c.found.ensures.1),
-    )
+returns-in-Lowest c = (
+  shows found_text _ c.reply_number.ensures (ap (λ (r : Reply). (told r).shown) c.in-Lowest.is) c.put_number-number.ensures c.found.ensures.0,
+  omega (arith, few (goal.at.returns-in-Lowest c).After-reply_number, c.put_number-number.ensures.counts, c.found.ensures.1),
+)
 
 pub returns-in-Accepted : goal.returns-in-Accepted
 returns-in-Accepted c =

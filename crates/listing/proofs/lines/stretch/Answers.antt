@@ -32,8 +32,7 @@ put-requires c =
     )
 
 pub returns : goal.returns
-returns c =
-    (
-      rw append_assoc at (then c.begin-word.ensures.0 (then c.put_number-long.ensures (then c.ends-shown.ensures.0 c.put.ensures))),
-      omega (arith, capped 20 (length c.args.part.now), c.begin-word.ensures.1, c.put_number-long.ensures.counts, c.ends-shown.ensures.1, c.put.ensures.counts),
-    )
+returns c = (
+  rw append_assoc at (then c.begin-word.ensures.0 (then c.put_number-long.ensures (then c.ends-shown.ensures.0 c.put.ensures))),
+  omega (arith, capped 20 (length c.args.part.now), c.begin-word.ensures.1, c.put_number-long.ensures.counts, c.ends-shown.ensures.1, c.put.ensures.counts),
+)
