@@ -17,6 +17,7 @@ mod takes;
 mod windows;
 
 // Document 02, point 1: "The pedal's C firmware calls the gain with a number and gets a number."
+#[unsafe(no_mangle)]
 pub extern "C" fn filkotar_gain(v: i32) -> u16
     ensures { result ≡ gain_of v }
 {
@@ -24,6 +25,7 @@ pub extern "C" fn filkotar_gain(v: i32) -> u16
 }
 
 // Document 02, point 2: the opening of a window of the last `width` values.
+#[unsafe(no_mangle)]
 pub extern "C" fn filkotar_window_open(area: &mut [u64], width: usize) -> WindowOutcome
     ensures { OpensInNumbers width area.old area.new result }
 {
@@ -31,6 +33,7 @@ pub extern "C" fn filkotar_window_open(area: &mut [u64], width: usize) -> Window
 }
 
 // The window's next value.
+#[unsafe(no_mangle)]
 pub extern "C" fn filkotar_window_value(s: WindowNumbers, area: &mut [u64], v: i32) -> WindowOutcome
     ensures { DoesInNumbers s v area.old area.new result }
 {
@@ -38,6 +41,7 @@ pub extern "C" fn filkotar_window_value(s: WindowNumbers, area: &mut [u64], v: i
 }
 
 // Document 02, point 3: writes the index of a take.
+#[unsafe(no_mangle)]
 pub extern "C" fn filkotar_build(take: &[i32], index: &mut [i32]) -> u32
     ensures { BuildsInNumbers take.now index.old index.new result }
 {
@@ -45,6 +49,7 @@ pub extern "C" fn filkotar_build(take: &[i32], index: &mut [i32]) -> u32
 }
 
 // The least value of a take from `i` to `j`, both included, and its place, where the index was built from that take.
+#[unsafe(no_mangle)]
 pub extern "C" fn filkotar_search(take: &[i32], index: &[i32], i: usize, j: usize) -> FoundNumbers
     ensures { SearchesInNumbers take.now index.now i j result }
 {
@@ -52,6 +57,7 @@ pub extern "C" fn filkotar_search(take: &[i32], index: &[i32], i: usize, j: usiz
 }
 
 // Document 02, point 6: a rough reading of a take from `i` to `j`, both included, with a budget of looks.
+#[unsafe(no_mangle)]
 pub extern "C" fn filkotar_rough(
     take: &[i32],
     index: &[i32],
