@@ -11,7 +11,7 @@ use lib.IntN.{ℤ, pos, negsuc}
 use lib.Signed.{le_z}
 use lib.ListN.{length, get_or}
 use contract.Lifetimes.{Lfts}
-use denote.Ref.{MutBor, at_last}
+use denote.Ref.{Bor}
 use denote.Signature.{plain}
 use denote.Builtin.{SliceRefOf, usize, i32}
 use denote.Struct.Field.{usize-field, u32-field, i32-field}
@@ -45,14 +45,14 @@ rough_gives : (rough-function.signature).result ≡ plain (λ κs. reading-type.
 rough_gives = refl
 
 -- it asks for nothing
-rough_asks_nothing : (κs : Lfts 2) (x y : MutBor (List ℤ)) (i j B : ℕ) → rough-reads.Asked κs (x, (y, (i, (j, (B, tt)))))
+rough_asks_nothing : (κs : Lfts 2) (x y : Bor (List ℤ)) (i j B : ℕ) → rough-reads.Asked κs (x, (y, (i, (j, (B, tt)))))
 rough_asks_nothing κs x y i j B = tt
 
 -- WHAT C IS TOLD, of a take, an index, a range and a budget
 abbrev RoughTold : List ℤ → List ℤ → (i j B : ℕ) → ReadingNumbers → Type 0
 RoughTold values index i j B r =
-    (κs : Lfts 2) × (x y : MutBor (List ℤ))
-    × rough-reads.Learnt κs (at_last x values, (at_last y index, (i, (j, (B, tt))))) r (at_last x values, (at_last y index, (i, (j, (B, tt)))))
+    (κs : Lfts 2) × (x y : ℕ × ℕ)
+    × rough-reads.Learnt κs (record { ref_ptr = x; now = values }, (record { ref_ptr = y; now = index }, (i, (j, (B, tt))))) r (record { ref_ptr = x; now = values }, (record { ref_ptr = y; now = index }, (i, (j, (B, tt)))))
 
 -- the point's theorem, of the contract itself
 abbrev Contract : ReadSays
@@ -194,8 +194,5 @@ built_and_read : (values before after : List ℤ) (i j : ℕ) (r : ReadingNumber
 built_and_read values before after i j r b t l h = rough_exact values after i j 18446744073709551615 r t (built values before after 0 b refl) l h
 
 -- THE CONVERSE: no more is learnt of the function that C calls than its contract says. The references may be any
-any : MutBor (List ℤ)
-any = record { ref_ptr = (0, 0); ghost_name = 0; now = [] }
-
 rough_told_of : (values index : List ℤ) (i j B : ℕ) (a : Reading) → told a ≡ rough_reading values index i j B → RoughTold values index i j B (reading_in_numbers (told a))
-rough_told_of values index i j B a d = (([], ([], tt)), any, any, record { reading = a; reads = d; numbers = refl })
+rough_told_of values index i j B a d = (([], ([], tt)), (0, 0), (0, 0), record { reading = a; reads = d; numbers = refl })

@@ -11,7 +11,7 @@ use lib.Signed.{le_z}
 use lib.ListN.{length, get_or, take}
 use lib.Seq.{length-take-le, get_or-take}
 use contract.Lifetimes.{Lfts}
-use denote.Ref.{Bor}
+use denote.Ref.{Bor, MutBor}
 use denote.Signature.{plain}
 use denote.Builtin.{SliceRefOf, usize, i32}
 use Rattle.history.specs.declared.Minimum.{Minimum}
@@ -64,7 +64,7 @@ searches_as_promised : (values index : List ℤ) (i j : ℕ) (r : Reply) → Sea
 searches_as_promised values index i j r (κs, x, y, d) = d
 
 stretches_as_promised : (at : ℕ × ℕ) (values : List ℤ) (i j : ℕ) (start : ℕ × ℕ) (part : List ℤ) → Stretched at values i j start part → Stretches at values i j start part
-stretches_as_promised at values i j start part (κs, x, y, d) = d
+stretches_as_promised at values i j start part (κs, d) = d
 
 builds_no_more : (values before after : List ℤ) (r : Reply) → Builds values before after r → Built values before after r
 builds_no_more = built_of
@@ -76,7 +76,7 @@ stretches_no_more : (at : ℕ × ℕ) (values : List ℤ) (i j : ℕ) (start : �
 stretches_no_more = stretched_of
 
 -- no function asks for anything
-build_asks_nothing : (κs : Lfts 2) (x y : Bor (List ℤ)) → build-reads.Asked κs (x, (y, tt))
+build_asks_nothing : (κs : Lfts 2) (x : Bor (List ℤ)) (y : MutBor (List ℤ)) → build-reads.Asked κs (x, (y, tt))
 build_asks_nothing κs x y = tt
 
 search_asks_nothing : (κs : Lfts 2) (x y : Bor (List ℤ)) (i j : ℕ) → search-reads.Asked κs (x, (y, (i, (j, tt))))

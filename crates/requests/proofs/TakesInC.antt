@@ -12,7 +12,7 @@ use lib.IntN.{ℤ, pos}
 use lib.Signed.{le_z}
 use lib.ListN.{length, get_or}
 use contract.Lifetimes.{Lfts}
-use denote.Ref.{MutBor, at_last}
+use denote.Ref.{Bor, MutBor, at_last}
 use denote.Signature.{plain}
 use denote.Builtin.{SliceRefOf, SliceRefMutOf, usize, u32, i32}
 use denote.Struct.Field.{usize-field, u32-field, i32-field}
@@ -52,21 +52,22 @@ search_gives : (search-function.signature).result ≡ plain (λ κs. found_type.
 search_gives = refl
 
 -- neither function asks for anything
-build_asks_nothing : (κs : Lfts 2) (x y : MutBor (List ℤ)) → build-reads.Asked κs (x, (y, tt))
+build_asks_nothing : (κs : Lfts 2) (x : Bor (List ℤ)) (y : MutBor (List ℤ)) → build-reads.Asked κs (x, (y, tt))
 build_asks_nothing κs x y = tt
 
-search_asks_nothing : (κs : Lfts 2) (x y : MutBor (List ℤ)) (i j : ℕ) → search-reads.Asked κs (x, (y, (i, (j, tt))))
+search_asks_nothing : (κs : Lfts 2) (x y : Bor (List ℤ)) (i j : ℕ) → search-reads.Asked κs (x, (y, (i, (j, tt))))
 search_asks_nothing κs x y i j = tt
 
 -- WHAT C IS TOLD: by `filkotar_build` of a take and of an index that was `before` and is `after`; by `filkotar_search` of a take, an index and a range
 abbrev pub BuildTold : List ℤ → List ℤ → List ℤ → ℕ → Type 0
 BuildTold values before after r =
-    (κs : Lfts 2) × (x y : MutBor (List ℤ)) × build-reads.Learnt κs (at_last x values, (at_last y before, tt)) r (at_last x values, (at_last y after, tt))
+    (κs : Lfts 2) × (x : ℕ × ℕ) × (y : MutBor (List ℤ))
+    × build-reads.Learnt κs (record { ref_ptr = x; now = values }, (at_last y before, tt)) r (record { ref_ptr = x; now = values }, (at_last y after, tt))
 
 abbrev SearchTold : List ℤ → List ℤ → (i j : ℕ) → FoundNumbers → Type 0
 SearchTold values index i j r =
-    (κs : Lfts 2) × (x y : MutBor (List ℤ))
-    × search-reads.Learnt κs (at_last x values, (at_last y index, (i, (j, tt)))) r (at_last x values, (at_last y index, (i, (j, tt))))
+    (κs : Lfts 2) × (x y : ℕ × ℕ)
+    × search-reads.Learnt κs (record { ref_ptr = x; now = values }, (record { ref_ptr = y; now = index }, (i, (j, tt)))) r (record { ref_ptr = x; now = values }, (record { ref_ptr = y; now = index }, (i, (j, tt))))
 
 -- an answer that shows nothing: value and place are 0
 abbrev plainly : ℕ → FoundNumbers
@@ -147,7 +148,7 @@ any : MutBor (List ℤ)
 any = record { ref_ptr = (0, 0); ghost_name = 0; now = [] }
 
 build_told_of : (values before after : List ℤ) (a : Reply) → Builds values before after a → BuildTold values before after (told a).number
-build_told_of values before after a d = (([], ([], tt)), any, any, record { reply = a; builds = d; number = refl })
+build_told_of values before after a d = (([], ([], tt)), (0, 0), any, record { reply = a; builds = d; number = refl })
 
 search_told_of : (values index : List ℤ) (i j : ℕ) (a : Reply) → Searches values index i j a → SearchTold values index i j (in_numbers (told a))
-search_told_of values index i j a d = (([], ([], tt)), any, any, record { reply = a; searches = d; numbers = refl })
+search_told_of values index i j a d = (([], ([], tt)), (0, 0), (0, 0), record { reply = a; searches = d; numbers = refl })

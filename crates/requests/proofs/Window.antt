@@ -5,13 +5,13 @@ use mathlib.Core.Bool.{true, false}
 use mathlib.Core.List.{List, [], ◌∷◌, ◌++◌, map}
 use mathlib.Core.Logic.{◌⊎◌, inl, inr}
 use mathlib.Core.Option.{some}
-use Prim.Native.Nat.{ℕ, ◌+◌, ◌*◌, ◌-◌, ◌<◌, ◌≤◌}
+use Prim.Native.Nat.{ℕ, ◌+◌, ◌*◌, ◌<◌, ◌≤◌}
 use native.Mathlib.Omega.{arith}
 use lib.IntN.{ℤ, pos}
 use lib.ListN.{length, get_or}
 use lib.Signed.{le_z}
 use contract.Lifetimes.{Lfts}
-use denote.Ref.{Bor}
+use denote.Ref.{MutBor}
 use Rattle.history.specs.declared.Position.{Position}
 use Rattle.history.specs.declared.Minimum.{Minimum}
 use Rattle.history.specs.declared.Standing.TheVariants.{Unmarked}
@@ -71,10 +71,10 @@ does_as_promised : (s : Window) (v : ℤ) (lent left : List ℕ) (r : Answer) �
 does_as_promised s v lent left r (κs, x, d) = d
 
 -- neither function asks for anything
-open_asks_nothing : (κs : Lfts 1) (x : Bor (List ℕ)) (width : ℕ) → open-reads.Asked κs (x, (width, tt))
+open_asks_nothing : (κs : Lfts 1) (x : MutBor (List ℕ)) (width : ℕ) → open-reads.Asked κs (x, (width, tt))
 open_asks_nothing κs x width = tt
 
-value_asks_nothing : (κs : Lfts 1) (x : Bor (List ℕ)) (s : Window) (v : ℤ) → value-reads.Asked κs (s, (x, (v, tt)))
+value_asks_nothing : (κs : Lfts 1) (x : MutBor (List ℕ)) (s : Window) (v : ℤ) → value-reads.Asked κs (s, (x, (v, tt)))
 value_asks_nothing κs x s v = tt
 
 -- a run that exists is one of the functions: no more is learnt of them than their contracts say

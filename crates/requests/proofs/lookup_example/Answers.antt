@@ -3,4 +3,4 @@ use Rattle.requests.proofs.Lookup.{example_printed}
 use Rattle.requests.proofs.lookup_example.Goals as goal
 
 pub returns : goal.returns
-returns c = example_printed _ c.write.ensures.0
+returns c = example_printed _ c.write.ensures.prints

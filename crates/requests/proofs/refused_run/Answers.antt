@@ -10,9 +10,8 @@ use Rattle.requests.proofs.refused_run.Goals as goal
 
 pub returns : goal.returns
 returns c =
-    let «open» = «After-area3» in
-    run_exists 3 5 unopened (length-replicate {A = ℕ} 5 7) «open».«open».ensures
-    (other_then 5 (inl refl) («open».«open».ensures.any.long ∙ length-replicate {A = ℕ} 5 7) c.value-first.ensures
+    run_exists 3 5 unopened (length-replicate {A = ℕ} 5 7) c.open-opened.ensures
+    (other_then 5 (inl refl) (c.open-opened.ensures.any.long ∙ length-replicate {A = ℕ} 5 7) c.value-first.ensures
     (other_then 6 (inl refl) (length-replicate {A = ℕ} 6 7) c.value-second.ensures
     (other_then 0 (inl refl) refl c.value-third.ensures none_left)))
     refl

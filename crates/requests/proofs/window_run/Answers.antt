@@ -10,9 +10,8 @@ use Rattle.requests.proofs.window_run.Goals as goal
 
 pub returns : goal.returns
 returns c =
-    let «open» = «After-value» in
-    run_exists 2 4 lines (length-replicate {A = ℕ} 4 7) «open».«open».ensures
-    (own_then (λ e. omega arith) («open».«open».ensures.any.long ∙ length-replicate {A = ℕ} 4 7) c.value-first.ensures
+    run_exists 2 4 lines (length-replicate {A = ℕ} 4 7) c.open-opened.ensures
+    (own_then (λ e. omega arith) (c.open-opened.ensures.any.long ∙ length-replicate {A = ℕ} 4 7) c.value-first.ensures
     (λ l. other_then 5 (inr (λ e. omega (arith, length-replicate {A = ℕ} 5 7))) (length-replicate {A = ℕ} 5 7) c.value-longer.ensures
     (own_then (λ e. omega arith) l c.value-second.ensures (λ _. c.leave.ensures))))
     lines_computed
