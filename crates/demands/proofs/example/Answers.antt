@@ -4,4 +4,4 @@ use Rattle.transcript.proofs.Examples.{example_printed}
 use Rattle.demands.proofs.example.Goals as goal
 
 pub returns : goal.returns
-returns c = c.write.ensures.0 ∙ example_printed
+returns c = c.write.ensures.out_after ∙ example_printed

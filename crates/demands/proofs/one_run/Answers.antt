@@ -6,4 +6,4 @@ use Rattle.demands.proofs.Existing.{lines_computed, run_exists}
 use Rattle.demands.proofs.one_run.Goals as goal
 
 pub returns : goal.returns
-returns c = run_exists 640 lines (length-replicate {A = ℕ} 640 0) «After-area2».«open».ensures c.marking.ensures lines_computed
+returns c = run_exists 640 lines (length-replicate {A = ℕ} 640 0) c.open-opened.ensures c.marking.ensures lines_computed

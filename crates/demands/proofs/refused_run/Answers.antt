@@ -10,8 +10,7 @@ use Rattle.demands.proofs.refused_run.Goals as goal
 
 pub returns : goal.returns
 returns c =
-    let «open» = «After-value-arg» in
-    run_exists 575 unopened (length-replicate {A = ℕ} 575 0) «open».«open».ensures
-    (unopened_then («open».«open».ensures.long ∙ length-replicate {A = ℕ} 575 0) c.value-value.ensures
+    run_exists 575 unopened (length-replicate {A = ℕ} 575 0) c.open-opened.ensures
+    (unopened_then (c.open-opened.ensures.long ∙ length-replicate {A = ℕ} 575 0) c.value-value.ensures
     (unopened_then (length-replicate {A = ℕ} 640 0) c.mark-mark.ensures none_left))
     refl

@@ -1,11 +1,11 @@
 use mathlib.Core.Path.{refl, ◌∙◌}
-use Prim.Native.Nat.{◌+◌, ◌-◌, ◌≤◌}
+use Prim.Native.Nat.{◌+◌, ◌≤◌}
 use native.Mathlib.Omega.{arith}
 use lib.ListN.{length}
 use Rattle.text.proofs.Texts.{nothing}
 use Rattle.transcript.proofs.Streams.{reached_start, moves, reached_more, reached_end}
 use Rattle.transcript.proofs.follow.Goals as goal
-use Rattle.transcript.proofs.follow.Goals.{In-Next-2}
+use Rattle.transcript.proofs.follow.Goals.{In-Next}
 
 pub loop-progress-init : goal.loop-progress-init
 loop-progress-init c =
@@ -25,7 +25,7 @@ returns-in-End c =
     (omega (arith, c.loop-progress.invariant.fits, c.loop-progress.invariant.within, c.requires.0))
 
 -- the command that was read moves the place, and leaves it within the stream
-moved : (c : In-Next-2)
+moved : (c : In-Next)
     → (1 ≤ c.in-Next.length) × (c.loop-progress.at + c.in-Next.length ≤ length c.args.bytes.now)
 moved c =
     let m = moves c.args.bytes.now c.loop-progress.at c.loop-progress.invariant.within c.read-reading.ensures c.in-Next.is in
@@ -34,13 +34,13 @@ moved c =
 pub perform-progress-requires : goal.perform-progress-requires
 perform-progress-requires c =
     let v = c.loop-progress.invariant in
-    (v.few, omega (arith, v.small, moved (goal.at.perform-progress-requires c).In-Next-2, c.requires.0), omega (arith, v.fits, v.prints.long, moved (goal.at.perform-progress-requires c).In-Next-2, c.requires.0, c.requires.1))
+    (v.few, omega (arith, v.small, moved (goal.at.perform-progress-requires c).In-Next, c.requires.0), omega (arith, v.fits, v.prints.long, moved (goal.at.perform-progress-requires c).In-Next, c.requires.0, c.requires.1))
 
 pub overflow_add-at : goal.overflow_add-at
-overflow_add-at c = record { fits = omega (arith, moved (goal.at.overflow_add-at c).In-Next-2) }
+overflow_add-at c = record { fits = omega (arith, moved (goal.at.overflow_add-at c).In-Next) }
 
 pub loop-progress-smaller : goal.loop-progress-smaller
-loop-progress-smaller c = omega (arith, moved (goal.at.loop-progress-smaller c).In-Next-2)
+loop-progress-smaller c = omega (arith, moved (goal.at.loop-progress-smaller c).In-Next)
 
 pub loop-progress-preserved : goal.loop-progress-preserved
 loop-progress-preserved c =

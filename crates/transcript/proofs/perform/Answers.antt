@@ -12,11 +12,6 @@ use Rattle.transcript.proofs.perform.Goals.{After-acceptances_of}
 one : (c : After-acceptances_of) → c.acceptances_of.result ≤ 1
 one c = rw c.acceptances_of.ensures (at_most_one (told c.apply-answer.result.reply))
 
--- ?overflow-add-t15
--- add-t15 c =
---     let a = c.before.before.before.before.before.before.before.before.before in
---     record { fits = omega (arith, a.before.before.before.before.before.requires, one c.before) }
-
 pub returns : goal.returns
 returns c =
     let d = c.apply-answer in

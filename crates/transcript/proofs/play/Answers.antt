@@ -31,18 +31,17 @@ shape_of-out c =
     c.end.ensures.0.long ∙ c.follow-progress.ensures.prints.long ∙ c.taps-start.ensures.0.long
 
 pub returns : goal.returns
-returns c =
-    (
-      whole_run {n = 4352} (length-replicate {A = ℕ} _ 0) (omega arith) «After-open».«open».ensures c.taps-start.ensures.0 c.follow-progress.ensures c.end.ensures.0,
-      counted c.end.result c.end.new.out
-          (omega (
-            arith,
-            c.requires.1,
-            c.taps-start.ensures.1,
-            c.taps-start.ensures.0.long,
-            c.follow-progress.ensures.fits,
-            c.follow-progress.ensures.prints.long,
-            c.end.ensures.1,
-            c.end.ensures.0.long,
-          )),
-    )
+returns c = (
+  whole_run {n = 4352} (length-replicate {A = ℕ} _ 0) (omega arith) c.open-opened.ensures c.taps-start.ensures.0 c.follow-progress.ensures c.end.ensures.0,
+  counted c.end.result c.end.new.out
+      (omega (
+        arith,
+        c.requires.1,
+        c.taps-start.ensures.1,
+        c.taps-start.ensures.0.long,
+        c.follow-progress.ensures.fits,
+        c.follow-progress.ensures.prints.long,
+        c.end.ensures.1,
+        c.end.ensures.0.long,
+      )),
+)

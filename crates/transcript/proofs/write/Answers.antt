@@ -13,7 +13,10 @@ use Rattle.transcript.proofs.write.Goals as goal
 pub returns-then-bytes-le16384 : goal.returns-then-bytes-le16384
 returns-then-bytes-le16384 c =
     let e = c.play.ensures in
-    (e.0 ∙ ap (λ (x : List ℕ). printed 4352 (stream_of x)) (sym (take_all 16384 c.args.bytes.now (search rules))), e.1)
+    record {
+      out_after = e.0 ∙ ap (λ (x : List ℕ). printed 4352 (stream_of x)) (sym (take_all 16384 c.args.bytes.now (search rules)));
+      prefix_len = e.1;
+    }
 
 pub slice_bounds-play-end-2 : goal.slice_bounds-play-end-2
 slice_bounds-play-end-2 c = simp length-take (omega arith)

@@ -29,8 +29,7 @@ put-requires c =
     omega (arith, c.requires.1, few (goal.at.put-requires c).Start, c.put_number-number.ensures.counts, c.put_number-number.ensures.long, c.put-kind.ensures.counts, c.put-kind.ensures.long, c.put_reply-said.ensures.0.long, c.put_reply-said.ensures.1)
 
 pub returns : goal.returns
-returns c =
-    (
-      rw (← c.letter.ensures) (then c.put_number-number.ensures (then c.put-kind.ensures (then c.put_reply-said.ensures.0 c.put.ensures))),
-      omega (arith, few (goal.at.returns c).Start, c.put_number-number.ensures.counts, c.put-kind.ensures.counts, c.put_reply-said.ensures.1, c.put.ensures.counts),
-    )
+returns c = (
+  rw (← c.letter.ensures) (then c.put_number-number.ensures (then c.put-kind.ensures (then c.put_reply-said.ensures.0 c.put.ensures))),
+  omega (arith, few (goal.at.returns c).Start, c.put_number-number.ensures.counts, c.put-kind.ensures.counts, c.put_reply-said.ensures.1, c.put.ensures.counts),
+)

@@ -21,8 +21,7 @@ put-requires c =
     omega (arith, c.requires, c.put_numbered-first.ensures.counts, c.put_numbered-first.ensures.long, c.put_numbered-second.ensures.counts, c.put_numbered-second.ensures.long, c.put_numbered-third.ensures.counts, c.put_numbered-third.ensures.long, capped 20 c.args.read, capped 20 c.args.accepted, capped 20 c.args.active)
 
 pub returns : goal.returns
-returns c =
-    (
-      then c.put_numbered-first.ensures (then c.put_numbered-second.ensures (then c.put_numbered-third.ensures c.put.ensures)),
-      omega (arith, c.put_numbered-first.ensures.counts, c.put_numbered-second.ensures.counts, c.put_numbered-third.ensures.counts, c.put.ensures.counts, capped 20 c.args.read, capped 20 c.args.accepted, capped 20 c.args.active),
-    )
+returns c = (
+  then c.put_numbered-first.ensures (then c.put_numbered-second.ensures (then c.put_numbered-third.ensures c.put.ensures)),
+  omega (arith, c.put_numbered-first.ensures.counts, c.put_numbered-second.ensures.counts, c.put_numbered-third.ensures.counts, c.put.ensures.counts, capped 20 c.args.read, capped 20 c.args.accepted, capped 20 c.args.active),
+)

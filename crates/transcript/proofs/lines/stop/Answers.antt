@@ -17,8 +17,7 @@ put-requires c =
     omega (arith, c.requires, c.put_numbered-start.ensures.counts, c.put_numbered-start.ensures.long, c.put_numbered-number.ensures.counts, c.put_numbered-number.ensures.long, capped 20 c.args.offset, capped 20 c.number.result)
 
 pub returns : goal.returns
-returns c =
-    (
-      rw (← c.number.ensures) (then c.put_numbered-start.ensures (then c.put_numbered-number.ensures c.put.ensures)),
-      omega (arith, c.put_numbered-start.ensures.counts, c.put_numbered-number.ensures.counts, c.put.ensures.counts, capped 20 c.args.offset, capped 20 c.number.result),
-    )
+returns c = (
+  rw (← c.number.ensures) (then c.put_numbered-start.ensures (then c.put_numbered-number.ensures c.put.ensures)),
+  omega (arith, c.put_numbered-start.ensures.counts, c.put_numbered-number.ensures.counts, c.put.ensures.counts, capped 20 c.args.offset, capped 20 c.number.result),
+)
