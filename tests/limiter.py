@@ -1,5 +1,5 @@
 #!/usr/bin/env python3
-"""Long runs of the limiter, against what tests/windows.py works out: run `python3 tests/limiter.py target/bin/limiter`. The last line is 'N passed, M failed'.
+"""Long runs of the limiter, against what tests/windows.py works out: run `python3 tests/limiter.py crates/limiter/out/limiter`. The last line is 'N passed, M failed'.
 
 A run has 16,382 values, all that the limiter reads, falling, rising, constant, with many ties, at random over the whole range, or the longest lines that there are; some go on behind
 the bytes that it reads. The same runs are made each time.

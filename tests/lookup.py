@@ -1,5 +1,5 @@
 #!/usr/bin/env python3
-"""Long runs of `lookup`, and many short ones, against what tests/takes.py works out: run `python3 tests/lookup.py target/bin/lookup`. The last line is 'N passed, M failed'.
+"""Long runs of `lookup`, and many short ones, against what tests/takes.py works out: run `python3 tests/lookup.py crates/lookup/out/lookup`. The last line is 'N passed, M failed'.
 
 The long takes have up to 8,192 values, falling, rising, constant, with many ties, or at random over the whole range, and as many requests as there is room for: each range inside a block, from
 edge to edge of blocks, and at random. Some requests alter the index. Rough readings have budgets around the number of entries and the full count, and larger and smaller ones; in the short
