@@ -1,5 +1,5 @@
--- Point 3, of the three functions themselves. What a caller learns of each from its contract is `Learnt`, the reading that the checker makes of the `ensures` as it stands in the source. So a
--- contract that is weakened breaks the theorem here.
+-- The three functions themselves. What a caller learns of each from its contract is `Learnt`, the reading that the checker makes of the `ensures` as it stands in the source. So a
+-- contract that is weakened breaks the laws here, on which point 3 rests.
 use mathlib.Core.List.{List, []}
 use Prim.Native.Nat.{ℕ}
 use lib.IntN.{ℤ}
@@ -7,8 +7,7 @@ use contract.Lifetimes.{Lfts}
 use denote.Ref.{MutBor, at_last}
 use Rattle.blocks.specs.declared.Reply.{Reply}
 use Rattle.blocks.specs.Calls.{Builds, Searches, Stretches}
-use Rattle.blocks.specs.Promises.{BuildSays, SearchSays, StretchSays, Point3}
-use Rattle.blocks.proofs.Point as point
+use Rattle.blocks.specs.Promises.{BuildSays, SearchSays, StretchSays}
 use Rattle.blocks.proofs.build.Reads as build-reads
 use Rattle.blocks.proofs.search.Reads as search-reads
 use Rattle.blocks.proofs.stretch.Reads as stretch-reads
@@ -51,7 +50,3 @@ searched_of values index i j r d = (([], ([], tt)), (0, 0), (0, 0), d)
 
 pub stretched_of : (at : ℕ × ℕ) (values : List ℤ) (i j : ℕ) (start : ℕ × ℕ) (part : List ℤ) → Stretches at values i j start part → Stretched at values i j start part
 stretched_of at values i j start part d = (([], tt), d)
-
--- POINT 3
-pub point_3 : Point3 Built Searched Stretched
-point_3 = point.point_3 Built Searched Stretched builds searches stretches
