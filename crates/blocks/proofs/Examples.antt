@@ -14,7 +14,7 @@ use Rattle.blocks.specs.Promises.{Fitting}
 use Rattle.blocks.specs.Examples.{Search, searched, searches, Index, indexed, indexes, Stretch, stretched, stretches, SearchGives, BuildGives, StretchGives, Each}
 use Rattle.blocks.proofs.Indexes.{length_index}
 use Rattle.blocks.proofs.Tied.{Built, Searched, Stretched}
-use Rattle.blocks.proofs.Theorem.{point_3}
+use Rattle.blocks.proofs.Functions.{point_3}
 use Rattle.blocks.proofs.Tied as tied
 
 -- THE DEFINITIONS WORK THEM OUT

@@ -6,5 +6,5 @@ pub mod Covering
 pub mod Answers
 pub mod Point
 pub mod Tied
-pub mod Theorem
+pub mod Functions
 pub mod Examples

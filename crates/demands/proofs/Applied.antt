@@ -24,7 +24,8 @@ use Rattle.runs.specs.Lists.{commands_of, told_to, AllLent, state_after_all, wor
 use Rattle.engine.specs.Demand.{Answered}
 use Rattle.engine.specs.Promises.{Settled, OwnNumber, AnyAcceptance}
 use Rattle.engine.specs.Consequences.{Reached, Matches, Replied, AllTold}
-use Rattle.engine.proofs.Tied.{Opened, Called, demand_1, only_fours}
+use Rattle.engine.proofs.Tied.{Opened, Called}
+use Rattle.engine.proofs.Functions.{demand_1, only_fours}
 use Rattle.engine.proofs.Plain.{every_run}
 use Rattle.engine.proofs.Examples.{examples_given}
 use Rattle.demands.specs.Witness.{Line, unopened, RunExists}

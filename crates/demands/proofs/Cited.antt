@@ -29,6 +29,7 @@ use Rattle.engine.specs.Consequences.{EveryRun, OnlyFours, AllGiven}
 use Rattle.engine.specs.Calls.{Opens, Does}
 use Rattle.engine.proofs.Theorem as theorem
 use Rattle.engine.proofs.Tied as tied
+use Rattle.engine.proofs.Functions as functions
 use Rattle.engine.proofs.Tied.{Opened, ByOwn, ByApply, Called}
 use Rattle.engine.proofs.Examples as given
 use Rattle.engine.proofs.Plain as plain
@@ -40,10 +41,10 @@ use Rattle.demands.specs.Witness.{Line, RunExists}
 
 -- DEMANDS 1 AND 3, of the engine's functions; demand 2 is part of 3
 demand_1 : Demand1 Opened Called
-demand_1 = tied.demand_1
+demand_1 = functions.demand_1
 
 demand_3 : Demand3 Opened Called
-demand_3 = tied.demand_3
+demand_3 = functions.demand_3
 
 -- and for a caller, who knows the contracts
 by_contract : Demand3 Opens Does
@@ -55,7 +56,7 @@ every_run = plain.every_run
 
 -- "Any command, when the session is unopened": replies 4 only
 only_fours : OnlyFours Opened Called
-only_fours = tied.only_fours
+only_fours = functions.only_fours
 
 -- the starred examples and those of document 02, point 5, of the bookkeeper and of every run
 examples_worked : AllWorked examples

@@ -11,7 +11,8 @@ use Rattle.runs.specs.Lists.{replies_of, commands_of}
 use Rattle.runs.proofs.Lists.{each_call, told_all}
 use Rattle.engine.specs.Demand.{Meets}
 use Rattle.engine.specs.Consequences.{AlwaysGives, AllGiven}
-use Rattle.engine.proofs.Tied.{Opened, Called, demand_3}
+use Rattle.engine.proofs.Tied.{Opened, Called}
+use Rattle.engine.proofs.Functions.{demand_3}
 
 -- an example that the bookkeeper works out is given by every run
 gives : (e : Example) → worked e ≡ e → AlwaysGives Opened Called e

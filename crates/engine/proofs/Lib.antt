@@ -7,5 +7,6 @@ pub mod Instance
 pub mod Settling
 pub mod Theorem
 pub mod Tied
+pub mod Functions
 pub mod Plain
 pub mod Examples

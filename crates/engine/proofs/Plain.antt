@@ -20,7 +20,8 @@ use Rattle.runs.proofs.Induction.{own_length, own_lent, other_lent, other_length
 use Rattle.runs.proofs.Lists.{made_more, last_call, state_more, run_words_more, session_more}
 use Rattle.engine.specs.Demand.{Answered, Meets}
 use Rattle.engine.specs.Consequences.{Reached, opened, own_words, other_words, Matches, Replied, EveryRun}
-use Rattle.engine.proofs.Tied.{Opened, Called, demand_3}
+use Rattle.engine.proofs.Tied.{Opened, Called}
+use Rattle.engine.proofs.Functions.{demand_3}
 
 -- the paper after the opening of the words `first`
 abbrev paper : List ℕ → History

@@ -1,9 +1,9 @@
--- The demands, of the six functions themselves. What a caller learns of each from its contract is `Learnt`, the reading that the checker makes of the
+-- The six functions themselves. What a caller learns of each from its contract is `Learnt`, the reading that the checker makes of the
 -- `ensures` as it stands in the source, of the arguments, the result and the parameters as the function returns. So a contract that is weakened, or
--- cites another command, breaks the theorems here.
+-- cites another command, breaks the laws here, on which the demands rest.
 use mathlib.Core.Path.{◌≡◌}
 use mathlib.Core.List.{List, []}
-use mathlib.Core.Logic.{◌⊎◌, inl, inr}
+use mathlib.Core.Logic.{◌⊎◌}
 use Prim.Native.Nat.{ℕ}
 use contract.Lifetimes.{Lfts}
 use denote.Ref.{MutBor, at_last, as_bor}
@@ -11,12 +11,9 @@ use Rattle.history.specs.declared.Session.{Session}
 use Rattle.history.specs.declared.Command.{Command}
 use Rattle.history.specs.declared.Command.TheVariants.{Value, Mark, Query, Close}
 use Rattle.history.specs.declared.Answer.{Answer}
-use Rattle.engine.specs.Demand.{OpeningSays, CommandSays, Demand3}
-use Rattle.engine.specs.Promises.{Demand1}
-use Rattle.engine.specs.Consequences.{OnlyFours}
+use Rattle.engine.specs.Demand.{OpeningSays, CommandSays}
 use Rattle.engine.specs.Calls.{Opens, Does}
 use Rattle.engine.proofs.Settling.{query_reads_only}
-use Rattle.engine.proofs.Theorem as theorem
 use Rattle.engine.proofs.open.Reads as open-reads
 use Rattle.engine.proofs.value.Reads as value-reads
 use Rattle.engine.proofs.mark.Reads as mark-reads
@@ -49,18 +46,14 @@ ByApply s c lent left r =
 abbrev pub Called : CommandSays
 Called s c lent left r = ByOwn s c lent left r ⊎ ByApply s c lent left r
 
-opens : (first left : List ℕ) (o : Answer) → Opened first left o → Opens first left o
+pub opens : (first left : List ℕ) (o : Answer) → Opened first left o → Opens first left o
 opens first left o (κs, x, d) = d
 
-does_own : (s : Session) (c : Command) (lent left : List ℕ) (r : Answer) → ByOwn s c lent left r → Does s c lent left r
+pub does_own : (s : Session) (c : Command) (lent left : List ℕ) (r : Answer) → ByOwn s c lent left r → Does s c lent left r
 does_own s (Value v) lent left r (κs, x, d) = d
 does_own s Mark lent left r (κs, x, d) = d
 does_own s (Query i) lent left r (κs, x, d, e) = rw e d
 does_own s (Close i) lent left r (κs, x, d) = d
-
-does : (s : Session) (c : Command) (lent left : List ℕ) (r : Answer) → Called s c lent left r → Does s c lent left r
-does s c lent left r (inl d) = does_own s c lent left r d
-does s c lent left r (inr (κs, x, d)) = d
 
 -- THE CONVERSES: no more is learnt of the functions than their contracts say, so what is shown of every opening that is opened and of every command that is called is
 -- shown of all that the contracts allow. The reference may be any
@@ -80,15 +73,3 @@ own_of s (Close i) lent left r d = (([], tt), any, d)
 
 pub apply_of : (s : Session) (c : Command) (lent left : List ℕ) (r : Answer) → Does s c lent left r → ByApply s c lent left r
 apply_of s c lent left r d = (([], tt), any, d)
-
--- DEMAND 1, with what the checker shows of every function: it stays in bounds, and it ends
-pub demand_1 : Demand1 Opened Called
-demand_1 = theorem.demand_1 Opened Called opens does
-
--- DEMAND 3, and demand 2 in it
-pub demand_3 : Demand3 Opened Called
-demand_3 = theorem.demand_3 Opened Called opens does
-
--- and what follows a refused opening
-pub only_fours : OnlyFours Opened Called
-only_fours = theorem.only_fours Opened Called opens does

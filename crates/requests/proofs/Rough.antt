@@ -32,7 +32,7 @@ use Rattle.rough.specs.Looks.{Look, Entry, Value, looks, looks_used, rough_readi
 use Rattle.rough.specs.Promises.{read_by, Partly, Among, Before, InOrder, MakesKnown, Point6}
 use Rattle.rough.specs.Examples.{roughed, readings, ordered, orders, Gives, full_count}
 use Rattle.rough.proofs.Truth.{true_stands, true_under}
-use Rattle.rough.proofs.Tied as tied
+use Rattle.rough.proofs.Functions as functions
 use Rattle.rough.proofs.Tied.{Read, read_of}
 use Rattle.rough.proofs.Examples as worked
 use Rattle.blocks.proofs.due.Reads as due-reads
@@ -44,7 +44,7 @@ use Rattle.rough.proofs.read.Reads as read-reads
 use Rattle.requests.proofs.Takes.{index_built, shown_least}
 
 point_6 : Point6 Read
-point_6 = tied.point_6
+point_6 = functions.point_6
 
 readings_worked : map roughed readings ≡ readings
 readings_worked = worked.readings_worked

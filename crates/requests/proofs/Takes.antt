@@ -24,7 +24,7 @@ use Rattle.blocks.specs.Takes.{from_zero, block_of, block_minima_from, block_min
 use Rattle.blocks.specs.Calls.{Builds, Searches, Stretches}
 use Rattle.blocks.specs.Promises.{Point3, TellsLeast}
 use Rattle.blocks.specs.Examples.{searched, searches, indexed, indexes, stretched, stretches, SearchGives, BuildGives, StretchGives, Each}
-use Rattle.blocks.proofs.Tied as tied
+use Rattle.blocks.proofs.Functions as functions
 use Rattle.blocks.proofs.Tied.{Built, Searched, Stretched, built_of, searched_of, stretched_of}
 use Rattle.blocks.proofs.Examples as worked
 use Rattle.blocks.proofs.build.Reads as build-reads
@@ -33,7 +33,7 @@ use Rattle.blocks.specs.contracts.stretch as stretch-function
 use Rattle.blocks.proofs.stretch.Reads as stretch-reads
 
 point_3 : Point3 Built Searched Stretched
-point_3 = tied.point_3
+point_3 = functions.point_3
 
 searches_worked : map searched searches ≡ searches
 searches_worked = worked.searches_worked

@@ -32,7 +32,7 @@ use Rattle.window.specs.Calls.{Opens, Does}
 use Rattle.window.specs.Examples.{worked, AllGiven, examples}
 use Rattle.window.proofs.Inside as inside
 use Rattle.window.proofs.Theorem as theorem
-use Rattle.window.proofs.Tied as tied
+use Rattle.window.proofs.Functions as functions
 use Rattle.window.proofs.Tied.{Opened, Valued, opened_of, valued_of}
 use Rattle.window.proofs.Examples as given
 use Rattle.window.proofs.open.Reads as open-reads
@@ -40,13 +40,13 @@ use Rattle.window.proofs.value.Reads as value-reads
 use Rattle.requests.specs.Witness.{Line, RunExists}
 
 every_run : EveryRun Opened Valued
-every_run = tied.every_run
+every_run = functions.every_run
 
 by_contract : EveryRun Opens Does
 by_contract = theorem.by_contract
 
 every_input : EveryInput Opened Valued
-every_input = tied.every_input
+every_input = functions.every_input
 
 oldest_inside : OldestInside
 oldest_inside = inside.oldest_inside

@@ -13,4 +13,5 @@ pub mod Bracket
 pub mod Agreement
 pub mod Point
 pub mod Tied
+pub mod Functions
 pub mod Examples

@@ -1,5 +1,5 @@
--- Point 6, of the function itself. What a caller learns of `read` from its contract is `Learnt`, the reading that the checker makes of the `ensures` as it stands in the source. So a contract that is
--- weakened breaks the theorem here.
+-- The function itself. What a caller learns of `read` from its contract is `Learnt`, the reading that the checker makes of the `ensures` as it stands in the source. So a contract that is weakened
+-- breaks the law here, on which point 6 rests.
 use mathlib.Core.Path.{◌≡◌}
 use mathlib.Core.List.{List, []}
 use Prim.Native.Nat.{ℕ}
@@ -7,8 +7,7 @@ use lib.IntN.{ℤ}
 use contract.Lifetimes.{Lfts}
 use Rattle.rough.specs.declared.Reading.{Reading}
 use Rattle.rough.specs.Looks.{rough_reading, told}
-use Rattle.rough.specs.Promises.{ReadSays, Point6}
-use Rattle.rough.proofs.Point as point
+use Rattle.rough.specs.Promises.{ReadSays}
 use Rattle.rough.proofs.read.Reads as read-reads
 
 -- what is learnt of `read`, on a `&[i32]` to the values and one to the index, which gave r
@@ -23,7 +22,3 @@ reads values index i j B r (κs, x, y, d) = d
 -- THE CONVERSE: no more is learnt of the function than its contract says. The references may be any
 pub read_of : (values index : List ℤ) (i j B : ℕ) (r : Reading) → told r ≡ rough_reading values index i j B → Read values index i j B r
 read_of values index i j B r d = (([], ([], tt)), (0, 0), (0, 0), d)
-
--- POINT 6
-pub point_6 : Point6 Read
-point_6 = point.point_6 Read reads

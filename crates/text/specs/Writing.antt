@@ -8,7 +8,7 @@ pub record Adds (before : List ℕ) (used : ℕ) (text after : List ℕ) (r : �
   pub counts : r ≡ used + length text
   pub long : length after ≡ length before
 
--- the decimal digits of a number that has no more than so many, the most significant first. `glyph d` is the byte of the digit d, 48 + d
+-- the decimal digits of a number that has no more than so many, the most significant first. For d below 10 `hex_digit_ascii d` is the byte of the digit d, 48 + d
 unfoldable pub digits_within : ℕ → ℕ → List ℕ
 digits_within zero n = []
 digits_within (suc most) n = cond (ltb n 10) (hex_digit_ascii n ∷ []) (digits_within most (n / 10) ++ (hex_digit_ascii (n % 10) ∷ []))

@@ -9,7 +9,8 @@ use Rattle.runs.proofs.Lists.{each_call, told_all}
 use Rattle.window.specs.Windows.{opening, model}
 use Rattle.window.specs.Claim.{Meets}
 use Rattle.window.specs.Examples.{Example, worked, AllWorked, examples, AlwaysGives, AllGiven}
-use Rattle.window.proofs.Tied.{Opened, Valued, every_run}
+use Rattle.window.proofs.Tied.{Opened, Valued}
+use Rattle.window.proofs.Functions.{every_run}
 
 -- THE PAPER WORKS THEM OUT
 pub examples_worked : AllWorked examples

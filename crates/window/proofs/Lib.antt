@@ -4,4 +4,5 @@ pub mod Doing
 pub mod Instance
 pub mod Theorem
 pub mod Tied
+pub mod Functions
 pub mod Examples

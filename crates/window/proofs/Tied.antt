@@ -1,5 +1,5 @@
--- Point 2, of the two functions themselves. What a caller learns of each from its contract is `Learnt`, the reading that the checker makes of the `ensures` as it stands in the source, of the
--- arguments, the result and the parameters as the function returns. So a contract that is weakened breaks the theorems here.
+-- The two functions themselves. What a caller learns of each from its contract is `Learnt`, the reading that the checker makes of the `ensures` as it stands in the source, of the
+-- arguments, the result and the parameters as the function returns. So a contract that is weakened breaks the laws here, on which point 2 rests.
 use mathlib.Core.List.{List, []}
 use Prim.Native.Nat.{ℕ}
 use lib.IntN.{ℤ}
@@ -8,9 +8,7 @@ use denote.Ref.{MutBor, at_last}
 use Rattle.window.specs.declared.Window.{Window}
 use Rattle.window.specs.declared.Answer.{Answer}
 use Rattle.window.specs.Promises.{OpeningSays, ValueSays}
-use Rattle.window.specs.Claim.{EveryRun, EveryInput}
 use Rattle.window.specs.Calls.{Opens, Does}
-use Rattle.window.proofs.Theorem as theorem
 use Rattle.window.proofs.open.Reads as open-reads
 use Rattle.window.proofs.value.Reads as value-reads
 
@@ -22,10 +20,10 @@ Opened width before after o = (κs : Lfts 1) × (x : MutBor (List ℕ)) × open-
 abbrev pub Valued : ValueSays
 Valued s v lent left r = (κs : Lfts 1) × (x : MutBor (List ℕ)) × value-reads.Learnt κs (s, (at_last x lent, (v, tt))) r (s, (at_last x left, (v, tt)))
 
-opens : (width : ℕ) (first left : List ℕ) (o : Answer) → Opened width first left o → Opens width first left o
+pub opens : (width : ℕ) (first left : List ℕ) (o : Answer) → Opened width first left o → Opens width first left o
 opens width first left o (κs, x, d) = d
 
-does : (s : Window) (v : ℤ) (lent left : List ℕ) (r : Answer) → Valued s v lent left r → Does s v lent left r
+pub does : (s : Window) (v : ℤ) (lent left : List ℕ) (r : Answer) → Valued s v lent left r → Does s v lent left r
 does s v lent left r (κs, x, d) = d
 
 -- THE CONVERSES: no more is learnt of the functions than their contracts say, so what is shown of every call that is made is shown of all that the contracts allow. The reference may be any
@@ -37,11 +35,3 @@ opened_of width first left o d = (([], tt), any, d)
 
 pub valued_of : (s : Window) (v : ℤ) (lent left : List ℕ) (r : Answer) → Does s v lent left r → Valued s v lent left r
 valued_of s v lent left r d = (([], tt), any, d)
-
--- POINT 2, over the whole list
-pub every_run : EveryRun Opened Valued
-every_run = theorem.every_run Opened Valued opens does
-
--- and on any session and any words, with what the checker shows of every function: it stays in bounds, and it ends
-pub every_input : EveryInput Opened Valued
-every_input = theorem.every_input Opened Valued opens does
