@@ -1,6 +1,6 @@
 -- POINT 5, "First dip, not last", of the engine, after any run, and its two examples, of every run of their commands. "The window and stored takes follow the same rule": `Window.shown_earliest`,
 -- `Takes.found_earliest` and `found_only`, and in C `TakesInC.Shows.earliest`.
-use mathlib.Core.Path.{◌≡◌, refl, sym, ◌∙◌}
+use mathlib.Core.Path.{◌≡◌, sym, ◌∙◌}
 use mathlib.Core.Bool.{true, false}
 use mathlib.Core.List.{List, [], ◌∷◌}
 use mathlib.Core.Option.{some}
@@ -23,6 +23,7 @@ use Rattle.engine.specs.Consequences.{Reached, Replied}
 use Rattle.engine.proofs.Tied.{Opened, Called}
 use Rattle.engine.proofs.Plain.{every_run}
 use Rattle.engine.proofs.Examples.{examples_given}
+use Rattle.requests.proofs.EarliestSteps as steps
 
 -- WHEREVER A RUN HAS COME TO
 module _ (first words : List ℕ) (h : History) (s : Session) (run : Reached Opened Called first s words h) where
@@ -33,29 +34,29 @@ module _ (first words : List ℕ) (h : History) (s : Session) (run : Reached Ope
   -- what a Query of i is told, lent the opening's words or others
   module _ (i : Position) (lent left : List ℕ) (a : Answer) (own : (h.words ≡ 0 → ⊥) → length lent ≡ h.words → lent ≡ words) (call : Called s (Query i) lent left a) where
     replied : Replied h (Query i) lent left (told a.reply)
-    replied = every_run.replies first words h s run (Query i) lent left a own call
+    replied = steps.replied first words h s run i lent left a own call
 
     -- whatever is shown
     module _ (m : Minimum) (shows : (told a.reply).shown ≡ some m) where
       least : Least h.values i m
-      least = (replied.only_least i m refl shows).1
+      least = steps.least first words h s run i lent left a own call m shows
 
       -- "The bookkeeper of the third demand writes the earliest place from here": what is shown is what the history's step shows
       pub history_shows : (step h (length lent) (Query i)).tells.shown ≡ some m
-      history_shows = sym replied.shown ∙ shows
+      history_shows = sym (steps.replied first words h s run i lent left a own call).shown ∙ shows
 
       -- "Among equal least values the place is the earliest at or after the tap." It stands from the mark to the present, no value there is lower, and each earlier one there is higher
       pub at_or_after : (i.0 ≤ m.place.0) × (m.place.0 ≤ length h.values)
-      at_or_after = (least.from, least.to)
+      at_or_after = let least = steps.least first words h s run i lent left a own call m shows in (least.from, least.to)
 
       pub stands_there : value_at h.values m.place ≡ m.value
-      stands_there = least.stands
+      stands_there = (steps.least first words h s run i lent left a own call m shows).stands
 
       pub none_lower : (k : Position) → i.0 ≤ k.0 → k.0 ≤ length h.values → le_z m.value (value_at h.values k) ≡ true
-      none_lower = least.least
+      none_lower = (steps.least first words h s run i lent left a own call m shows).least
 
       pub earlier_higher : (k : Position) → i.0 ≤ k.0 → k.0 < m.place.0 → le_z (value_at h.values k) m.value ≡ false
-      earlier_higher = least.earliest
+      earlier_higher = (steps.least first words h s run i lent left a own call m shows).earliest
 
 abbrev at : ℕ → Position
 at n = record { 0 = n }

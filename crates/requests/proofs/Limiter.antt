@@ -16,4 +16,4 @@ examples_count = refl
 
 -- these bytes, that output, whole
 pub example_printed : output_of (2 ∷ 0 ∷ 0 ∷ 0 ∷ 4 ∷ 0 ∷ 0 ∷ 0 ∷ 3 ∷ 0 ∷ 0 ∷ 0 ∷ 1 ∷ 0 ∷ 0 ∷ 0 ∷ 2 ∷ 0 ∷ 0 ∷ 0 ∷ 2 ∷ 0 ∷ 0 ∷ 0 ∷ []) ≡ output
-example_printed = let e = examples_printed in cc
+example_printed = let e = readout.examples_printed in cc

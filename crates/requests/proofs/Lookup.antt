@@ -34,7 +34,7 @@ determined = theorem.determined
 
 -- in full: where no request is a `set`, what is printed is a function of the bytes
 determined_whole : (bytes text : List ℕ) → NoSet (requests_of (read_of bytes)) → Prints bytes text → text ≡ exact_output bytes
-determined_whole = determined
+determined_whole = theorem.determined
 
 -- searches, stretches and rough readings do not alter the index
 no_set_search : (i j : ℕ) (rs : List Request) → NoSet rs → NoSet (Search i j ∷ rs)
@@ -87,4 +87,4 @@ either_printed = ((listing.either_printed).0, (listing.either_printed).1)
 pub example_printed : (text : List ℕ)
     → Prints (2 ∷ 0 ∷ 0 ∷ 0 ∷ 5 ∷ 0 ∷ 0 ∷ 0 ∷ 253 ∷ 255 ∷ 255 ∷ 255 ∷ 1 ∷ 0 ∷ 0 ∷ 0 ∷ 1 ∷ 0 ∷ 0 ∷ 0 ∷ 0 ∷ 1 ∷ 0 ∷ 0 ∷ 0 ∷ 0 ∷ 0 ∷ 0 ∷ 0 ∷ []) text → text ≡ found
 unfolding digits_within lowest block_minima_from values_from requests_from
-example_printed text p = determined _ text tt p
+example_printed text p = theorem.determined _ text tt p

@@ -55,17 +55,17 @@ other_row = refl
 
 -- "the code is shown equal to it": what `transition_of` tells of an event and a standing is the definition's transition, and it asks for nothing
 code_is_definition : (event : Event) (standing : Standing) (r : Transition) → reads.Learnt tt (event, (standing, tt)) r (event, (standing, tt)) → r ≡ by_section_2 event standing
-code_is_definition event standing r t = t ∙ sym (as_document_01 event standing)
+code_is_definition event standing r t = t ∙ sym (law.as_document_01 event standing)
 
 asks_nothing : (event : Event) (standing : Standing) → reads.Asked tt (event, (standing, tt))
 asks_nothing event standing = tt
 
 -- what the promises cite: the paper's standing, the session's on any input, and what is due to a Mark
 paper_standing : (h : History) (c : Command) (values : List ℤ) (active : List Position) (peak : ℕ) → (becomes h c values active peak).standing ≡ (by_section_2 (event_of (present_of h) c) h.standing).after
-paper_standing h c values active peak = ap (λ (t : Transition). t.after) (sym (as_document_01 (event_of (present_of h) c) h.standing))
+paper_standing h c values active peak = ap (λ (t : Transition). t.after) (sym (law.as_document_01 (event_of (present_of h) c) h.standing))
 
 session_standing : (s : Session) (c : Command) (counted : ℕ) → (session_after s c counted).standing ≡ (by_section_2 (event_of s.present c) s.standing).after
-session_standing s c counted = ap (λ (t : Transition). t.after) (sym (as_document_01 (event_of s.present c) s.standing))
+session_standing s c counted = ap (λ (t : Transition). t.after) (sym (law.as_document_01 (event_of s.present c) s.standing))
 
 mark_due : (s : Session) (active : Bool) → own_refusal s active Mark ≡ mark_refusal s (by_section_2 Event.Mark s.standing).due
-mark_due s active = ap (λ (t : Transition). mark_refusal s t.due) (sym (as_document_01 Event.Mark s.standing))
+mark_due s active = ap (λ (t : Transition). mark_refusal s t.due) (sym (law.as_document_01 Event.Mark s.standing))
