@@ -1,6 +1,6 @@
 -- POINT 2 of document 02. Its theorems and its worked examples are cited under their statements; and each clause is used, in plain numbers, of the functions as they stand in the source. So a clause
--- that is dropped, or that gains a hypothesis or an alternative, no longer proves what stands here. No proof here rests on another theorem of this file: each takes what it needs from where it is
--- proved. What stands under "after each value" and needs that call's words is `value_rest` of `WindowSteps`.
+-- that is dropped, or that gains a hypothesis or an alternative, no longer proves what stands here. No theorem here rests on another of this file: each takes what it uses from where that is
+-- proved. `WindowSteps` has what the claim gives of one call more of a run, and of the clauses of a value the one whose statement speaks of it, `value_rest`.
 use mathlib.Core.Path.{◌≡◌, refl, ap}
 use mathlib.Core.Bool.{true, false}
 use mathlib.Core.List.{List, [], ◌∷◌, ◌++◌, map}
@@ -181,13 +181,13 @@ module _ (width : ℕ) (first left : List ℕ) (o : Answer) (calls : List (Call 
 
 -- "Values enter one by one and leave when W newer ones have come; before W have come, all count."
 value_stays : (width present k : ℕ) → 1 ≤ width → 1 ≤ k → k ≤ present → present < k + width → (oldest (record { 0 = present }) width).0 ≤ k
-value_stays width present k w = (oldest_inside width present w).stays k
+value_stays width present k w = (inside.oldest_inside width present w).stays k
 
 value_leaves : (width present k : ℕ) → 1 ≤ width → k + width ≤ present → k < (oldest (record { 0 = present }) width).0
-value_leaves width present k w = (oldest_inside width present w).leaves k
+value_leaves width present k w = (inside.oldest_inside width present w).leaves k
 
 oldest_some : (width present : ℕ) → 1 ≤ width → 1 ≤ (oldest (record { 0 = present }) width).0
-oldest_some width present w = (oldest_inside width present w).some
+oldest_some width present w = (inside.oldest_inside width present w).some
 
 -- "It equals what a tap at the window's oldest position would be told, whether or not a tap stands there."
 tap_told : (p : Paper) (n : ℕ) (v : ℤ) (h : History) → refusal_of p n ≡ 0 → h.values ≡ p.values ++ (v ∷ []) → (h.words ≡ 0 → ⊥)

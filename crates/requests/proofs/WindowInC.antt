@@ -1,6 +1,7 @@
 -- POINT 2 of document 02, of the two functions that C calls. What C is told by each is `Learnt`, the reading that the checker makes of the `ensures` as it stands in the source. It is used in the
 -- numbers that C sees: clause by clause on any numbers and any words, and over the whole list of values. So a clause that is dropped, or that gains a hypothesis or an alternative, no longer
--- proves what stands here. What is learnt of each function from its contract, and what is proved with that, is in `WindowInCSteps`: no proof here rests on another that does.
+-- proves what stands here. What is learnt of each function from its contract is in `WindowInCSteps`, with the proofs that need it, under the same words: each theorem here rests on what is proved
+-- there, and on none of this file that speaks of what C is told.
 use mathlib.Core.Path.{◌≡◌, refl, ap, ◌∙◌}
 use mathlib.Core.Bool.{Bool, cond}
 use mathlib.Core.List.{List, [], ◌∷◌}

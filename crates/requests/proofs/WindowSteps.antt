@@ -1,5 +1,5 @@
--- One call more of a run, whatever came before: what point 2's claim gives of it. `Window` states of each value what follows from that. It is proved here, so that what is said there of the calls is
--- compared with what is proved here of them.
+-- One call more of a run, whatever came before, and what point 2's claim gives of it: `Window` states what follows from that, clause by clause. So what is said there of the calls is compared with what is
+-- proved of them here. Of the clauses, the one on the words from index 2 × W on stands here, for its statement speaks of what is proved.
 use mathlib.Core.Path.{◌≡◌}
 use mathlib.Core.Bool.{true}
 use mathlib.Core.List.{List, [], ◌∷◌, ◌++◌}
