@@ -1,12 +1,12 @@
 -- POINT 2 of document 02, of the two functions that C calls. What C is told by each is `Learnt`, the reading that the checker makes of the `ensures` as it stands in the source. It is used in the
 -- numbers that C sees: clause by clause on any numbers and any words, and over the whole list of values. So a clause that is dropped, or that gains a hypothesis or an alternative, no longer
--- proves what stands here.
-use mathlib.Core.Path.{◌≡◌, refl, sym, ap, ◌∙◌}
-use mathlib.Core.Bool.{Bool, true, false, cond}
+-- proves what stands here. What is learnt of each function from its contract is in `WindowInCSteps`, with the proofs that need it, under the same words: each theorem here rests on what is proved
+-- there, and on none of this file that speaks of what C is told.
+use mathlib.Core.Path.{◌≡◌, refl, ap, ◌∙◌}
+use mathlib.Core.Bool.{Bool, cond}
 use mathlib.Core.List.{List, [], ◌∷◌}
 use mathlib.Core.Logic.{◌⊎◌}
 use Prim.Native.Nat.{ℕ, ◌+◌, ◌*◌, ◌<◌, ◌≤◌}
-use native.Mathlib.Decide.{ℕ_discrete}
 use lib.IntN.{ℤ, pos}
 use lib.Dec.{eqb}
 use lib.ListN.{length, get_or}
@@ -18,7 +18,7 @@ use denote.Struct.Field.{usize-field, u32-field, i32-field}
 use Rattle.history.specs.Replies.{Told, numbered, accepted, showing, told}
 use Rattle.window.specs.declared.Window.{Window}
 use Rattle.window.specs.declared.Answer.{Answer}
-use Rattle.window.specs.Windows.{Paper, Stepped, blank, opening_refusal}
+use Rattle.window.specs.Windows.{Paper, Stepped}
 use Rattle.window.specs.Promises.{OpeningSays, ValueSays, Refused}
 use Rattle.window.specs.Claim.{EveryRun}
 use Rattle.window.specs.Calls.{Opens, Does}
@@ -32,6 +32,7 @@ use Rattle.firmware.specs.contracts.filkotar_window_open as open-function
 use Rattle.firmware.proofs.filkotar_window_open.Reads as open-reads
 use Rattle.firmware.specs.contracts.filkotar_window_value as value-function
 use Rattle.firmware.proofs.filkotar_window_value.Reads as value-reads
+use Rattle.requests.proofs.WindowInCSteps as steps
 
 -- THE TYPES are those of include/filkotar.h, where a slice is a pointer and a length: the numbers of a session and of an answer, and what each function takes and gives
 session_numbers : (session-type.struct).parts ≡ usize-field ∷ usize-field ∷ u32-field ∷ []
@@ -96,45 +97,46 @@ refused a n q = (numbers_of_lem a n q.1 q.0, q.2)
 module _ (width : ℕ) (before after : List ℕ) (r : WindowOutcome) (t : OpenTold width before after r) where
   -- "12 at the window's opening for W outside 1 to 4,096; then 13 there for fewer than 2 × W words; both write nothing and return the unopened window session"
   open_12 : (width < 1) ⊎ (4096 < width) → (r ≡ plainly 0 0 0 12) × (after ≡ before)
-  open_12 o = refused t.2.answer t.2.numbers (t.2.opens.any.out_of_range o)
+  open_12 o = let a = steps.open_learnt width before after r t in refused a.0 a.1 (a.2.any.out_of_range o)
 
   open_13 : 1 ≤ width → width ≤ 4096 → length before < 2 * width → (r ≡ plainly 0 0 0 13) × (after ≡ before)
-  open_13 l m f = refused t.2.answer t.2.numbers (t.2.opens.any.too_short l m f)
+  open_13 l m f = let a = steps.open_learnt width before after r t in refused a.0 a.1 (a.2.any.too_short l m f)
 
   open_0 : 1 ≤ width → width ≤ 4096 → 2 * width ≤ length before → r ≡ plainly (length before) width 0 0
-  open_0 l m e = let a = t.2.opens.any.opens l m e in numbers_of_lem t.2.answer t.2.numbers a.1 a.0
+  open_0 l m e = let a = steps.open_learnt width before after r t in let b = a.2.any.opens l m e in numbers_of_lem a.0 a.1 b.1 b.0
 
   -- words from index 2 × W on are not written
   open_rest : (i : ℕ) → 2 * width ≤ i → get_or after i 0 ≡ get_or before i 0
-  open_rest = t.2.opens.any.rest
+  open_rest = (steps.open_learnt width before after r t).2.any.rest
 
   open_long : length after ≡ length before
-  open_long = t.2.opens.any.long
+  open_long = (steps.open_learnt width before after r t).2.any.long
 
 module _ (s : WindowNumbers) (v : ℤ) (before after : List ℕ) (r : WindowOutcome) (t : ValueTold s v before after r) where
   -- "each value meets 4, 5 and 6 as in the engine": the session's numbers come back equal, and no word is written
   value_4 : s.words ≡ 0 → (r ≡ plainly s.words s.width s.present 4) × (after ≡ before)
-  value_4 z = refused t.2.answer t.2.numbers (t.2.does.any.unopened z)
+  value_4 z = let a = steps.value_learnt s v before after r t in refused a.0 a.1 (a.2.any.unopened z)
 
   value_5 : (s.words ≡ 0 → ⊥) → (length before ≡ s.words → ⊥) → (r ≡ plainly s.words s.width s.present 5) × (after ≡ before)
-  value_5 z o = refused t.2.answer t.2.numbers (t.2.does.any.other_length z o)
+  value_5 z o = let a = steps.value_learnt s v before after r t in refused a.0 a.1 (a.2.any.other_length z o)
 
   value_6 : (s.words ≡ 0 → ⊥) → length before ≡ s.words → s.present ≡ 4294967295 → (r ≡ plainly s.words s.width s.present 6) × (after ≡ before)
-  value_6 z l h = refused t.2.answer t.2.numbers (t.2.does.any.last_position z l h)
+  value_6 z l h = let a = steps.value_learnt s v before after r t in refused a.0 a.1 (a.2.any.last_position z l h)
 
   -- else it is accepted: N and W stay, and the present position is the next
   value_0 : (s.words ≡ 0 → ⊥) → length before ≡ s.words → (s.present ≡ 4294967295 → ⊥)
       → (r.number ≡ 0) × (r.session ≡ record { words = s.words; width = s.width; present = s.present + 1 })
   value_0 z l h =
-      let a = t.2.does.any.accepts z l h in
-      let e = numbers_of_lem t.2.answer t.2.numbers a.2 a.1 in
+      let a = steps.value_learnt s v before after r t in
+      let b = a.2.any.accepts z l h in
+      let e = numbers_of_lem a.0 a.1 b.2 b.1 in
       (ap (λ (x : WindowOutcome). x.number) e, ap (λ (x : WindowOutcome). x.session) e)
 
   value_rest : (i : ℕ) → 2 * s.width ≤ i → get_or after i 0 ≡ get_or before i 0
-  value_rest = t.2.does.any.rest
+  value_rest = (steps.value_learnt s v before after r t).2.any.rest
 
   value_long : length after ≡ length before
-  value_long = t.2.does.any.long
+  value_long = (steps.value_learnt s v before after r t).2.any.long
 
 -- OVER THE WHOLE LIST. What the numbers of an answer tell: an opening's show nothing, and a value's show value and place just where the number is 0
 abbrev told_by_opening : WindowOutcome → Told
@@ -161,64 +163,39 @@ Valued s v lent left a = (r : WindowOutcome) × ValueTold (numbers_of s) v lent 
 shows_nothing : (b : Bool) (p q : Paper) (k : ℕ)
     → let s : Stepped = cond b (record { paper = p; tells = accepted }) (record { paper = q; tells = numbered k }) in
     numbered s.tells.number ≡ s.tells
-shows_nothing true p q k = refl
-shows_nothing false p q k = refl
+shows_nothing = steps.shows_nothing
 
 told_opening : {width : ℕ} {first left : List ℕ} {a : Answer} → Opens width first left a → told_by_opening (outcome_of a) ≡ told a.reply
-told_opening {width} {first} d =
-    let k : ℕ = opening_refusal (length first) width in
-    rw d.tells (shows_nothing (eqb k 0) (blank (length first) width) (blank 0 0) k)
+told_opening d = steps.told_opening d
 
 -- a value is refused with 4, 5 or 6, or shows a value and a place
 told_value : {s : Window} {v : ℤ} {lent left : List ℕ} {a : Answer} → Does s v lent left a → told_by_value (outcome_of a) ≡ told a.reply
-told_value {s} {lent = lent} d = elim (ℕ_discrete s.words 0) [
-  | yes z ↦ rw (d.any.unopened z).0
-  | no z ↦ elim (ℕ_discrete (length lent) s.words) [
-    | no l ↦ rw (d.any.other_length z l).0
-    | yes l ↦ elim (ℕ_discrete s.present.0 4294967295) [
-      | yes h ↦ rw (d.any.last_position z l h).0
-      | no h ↦ rw (d.any.accepts z l h).1
-    ]
-  ]
-]
+told_value d = steps.told_value d
 
 -- so whatever C is told is of an answer
 open_answer : (width : ℕ) (first left : List ℕ) (r : WindowOutcome) → OpenTold width first left r → (a : Answer) × OpeningIs r a
-open_answer width first left r (κs, x, d) = (d.answer, (d.numbers, ap told_by_opening d.numbers ∙ told_opening d.opens))
+open_answer width first left r t = let a = steps.open_learnt width first left r t in (a.0, (a.1, ap told_by_opening a.1 ∙ steps.told_opening a.2))
 
 value_answer : (s : WindowNumbers) (v : ℤ) (lent left : List ℕ) (r : WindowOutcome) → ValueTold s v lent left r → (a : Answer) × ValueIs r a
-value_answer s v lent left r (κs, x, d) = (d.answer, (d.numbers, ap told_by_value d.numbers ∙ told_value d.does))
+value_answer s v lent left r t = let a = steps.value_learnt s v lent left r t in (a.0, (a.1, ap told_by_value a.1 ∙ steps.told_value a.2))
 
 -- and of one alone, as far as the claim goes: another answer of these numbers has its session, and tells what it tells
 same_session : {r : WindowOutcome} (a b : Answer) → r ≡ outcome_of a → r ≡ outcome_of b → a.session ≡ b.session
-same_session a b e f = ap (λ (x : WindowOutcome). window_from x.session) (sym e ∙ f)
+same_session a b e f = steps.same_session a b e f
 
 opens : (width : ℕ) (first left : List ℕ) (a : Answer) → Opened width first left a → Opens width first left a
-opens width first left a (r, (κs, x, d), (n, t)) =
-    let e : told d.answer.reply ≡ told a.reply = sym (told_opening d.opens) ∙ ap told_by_opening (sym d.numbers) ∙ t in
-    let f : d.answer.session ≡ a.session = same_session d.answer a d.numbers n in
-    record { any = rw (e, f) at d.opens.any; tells = sym e ∙ d.opens.tells; represents = rw f at d.opens.represents; rest = d.opens.rest }
+opens = steps.opens
 
 does : (s : Window) (v : ℤ) (lent left : List ℕ) (a : Answer) → Valued s v lent left a → Does s v lent left a
-does s v lent left a (r, (κs, x, d), (n, t)) =
-    let e : told d.answer.reply ≡ told a.reply = sym (told_value d.does) ∙ ap told_by_value (sym d.numbers) ∙ t in
-    let f : d.answer.session ≡ a.session = same_session d.answer a d.numbers n in
-    record {
-      any = rw (e, f) at d.does.any;
-      tells = λ p first y k. sym e ∙ d.does.tells p first y k;
-      represents = λ p first y k. rw f at (d.does.represents p first y k);
-    }
+does = steps.does
 
 -- POINT 2, of the functions that C calls
 every_run : EveryRun Opened Valued
-every_run = theorem.every_run Opened Valued opens does
+every_run = theorem.every_run Opened Valued steps.opens steps.does
 
--- THE CONVERSES: no more is learnt of the functions that C calls than their contracts say, so that the claim is of all that these allow, and of the runs that exist. The reference may be any
-any : MutBor (List ℕ)
-any = record { ref_ptr = (0, 0); ghost_name = 0; now = [] }
-
+-- THE CONVERSES: no more is learnt of the functions that C calls than their contracts say, so that the claim is of all that these allow, and of the runs that exist
 opened_of : (width : ℕ) (first left : List ℕ) (a : Answer) → Opens width first left a → Opened width first left a
-opened_of width first left a d = (outcome_of a, (([], tt), any, record { answer = a; opens = d; numbers = refl }), (refl, told_opening d))
+opened_of = steps.opened_of
 
 valued_of : (s : Window) (v : ℤ) (lent left : List ℕ) (a : Answer) → Does s v lent left a → Valued s v lent left a
-valued_of s v lent left a d = (outcome_of a, (([], tt), any, record { answer = a; does = d; numbers = refl }), (refl, told_value d))
+valued_of = steps.valued_of
