@@ -1,4 +1,4 @@
--- The steps of TakesInC, in the words of its statements, which stand there. Each is also used by the next, so that a statement there that is wrong is refused by itself.
+-- The lemmas behind TakesInC, in the words of its statements. There each statement is proved of these, and none of another that stands there: so one that is wrong is refused by itself.
 use mathlib.Core.Path.{◌≡◌, refl, ap, ◌∙◌}
 use mathlib.Core.Bool.{true, false}
 use mathlib.Core.List.{List, []}
