@@ -95,21 +95,21 @@ stretch_gives = refl
 -- the first worked examples, of any call: a search of 3, 1, 2, 1; building for no values; and the stretch of the two in the middle
 first_search : (r : Reply) → Searched (pos 3 ∷ pos 1 ∷ pos 2 ∷ pos 1 ∷ []) (pos 1 ∷ []) 0 3 r → told r ≡ showing (record { value = pos 1; place = record { 0 = 1 } })
 unfolding lowest block_minima_from
-first_search r q = searches_given.0 (pos 1 ∷ []) r q refl (λ n. refl)
+first_search r q = worked.searches_given.0 (pos 1 ∷ []) r q refl (λ n. refl)
 
 first_index : (before after : List ℤ) (r : Reply) → Built [] before after r → length before ≡ 0 → (told r ≡ numbered 0) × (after ≡ [])
-first_index before after r q n = indexes_given.0 before after r q n
+first_index before after r q n = worked.indexes_given.0 before after r q n
 
 second_stretch : (at start : ℕ × ℕ) (part : List ℤ) → Stretched at (pos 3 ∷ pos 1 ∷ pos 2 ∷ pos 1 ∷ []) 1 2 start part → part ≡ pos 1 ∷ pos 2 ∷ []
-second_stretch at start part q = stretches_given.1.0 at start part q
+second_stretch at start part q = worked.stretches_given.1.0 at start part q
 
 -- BUILDING, of any take and any index. "Building writes every index entry and nothing else"; an index of another length gets 15, and is not written
 module _ (values before after : List ℤ) (r : Reply) (q : Built values before after r) where
   pub index_built : length before ≡ (length values + 63) / 64 → (told r ≡ numbered 0) × (after ≡ block_minima values)
-  index_built n = (point_3.building values before after r q).writes n
+  index_built n = (functions.point_3.building values before after r q).writes n
 
   pub index_refused : (length before ≡ (length values + 63) / 64 → ⊥) → (told r ≡ numbered 15) × (after ≡ before)
-  index_refused n = (point_3.building values before after r q).refused n
+  index_refused n = (functions.point_3.building values before after r q).refused n
 
 -- "An empty take has an empty index"
 empty_index : block_minima [] ≡ []
@@ -119,28 +119,28 @@ empty_index = refl
 -- "the least of each block of 64 values, the last block perhaps shorter": entry b is a value of block b, at an offset from 64 × b to before 64 × b + 64 or the take's end, and no value there is lower
 module _ (values : List ℤ) where
   pub index_long : length (block_minima values) ≡ (length values + 63) / 64
-  index_long = (point_3.index values).fitting
+  index_long = (functions.point_3.index values).fitting
 
   pub in_block : (k : ℕ) → k < length values → (k / 64 < (length values + 63) / 64) × (get_or (block_of values (k / 64)) (k % 64) (pos 0) ≡ get_or values k (pos 0))
-  in_block k h = (point_3.index values).blocks k h
+  in_block k h = (functions.point_3.index values).blocks k h
 
   pub block_long : (b : ℕ) → 64 * b + 64 ≤ length values → length (block_of values b) ≡ 64
-  block_long b h = (point_3.index values).whole b h
+  block_long b h = (functions.point_3.index values).whole b h
 
   pub last_block : (b : ℕ) → 64 * b < length values → length values < 64 * b + 64 → length (block_of values b) ≡ length values - 64 * b
-  last_block b h l = (point_3.index values).shorter b h l
+  last_block b h l = (functions.point_3.index values).shorter b h l
 
   -- a value of a block, counted from 0, is at least the entry
   pub entry_lowest : (b k : ℕ) → b < (length values + 63) / 64 → k < length (block_of values b) → le_z (get_or (block_minima values) b (pos 0)) (get_or (block_of values b) k (pos 0)) ≡ true
   entry_lowest b k h l =
-      let e = (point_3.index values).entries b h in
+      let e = (functions.point_3.index values).entries b h in
       let back : k + 1 - 1 ≡ k = omega arith in
       rw e.2 (rw back at (e.1.least (record { 0 = k + 1 }) (omega arith) (omega arith)))
 
   -- and one of them is the entry
   pub entry_stands : (b : ℕ) → b < (length values + 63) / 64 → (k : ℕ) × (k < length (block_of values b)) × (get_or (block_of values b) k (pos 0) ≡ get_or (block_minima values) b (pos 0))
   entry_stands b h =
-      let e = (point_3.index values).entries b h in
+      let e = (functions.point_3.index values).entries b h in
       (e.0.place.0 - 1, omega (arith, e.1.from, e.1.to), rw e.2 e.1.stands)
 
 -- WHAT IS TOLD OF A LEAST, in offsets: it stands in the range, no value there is lower, and each earlier one there is higher
@@ -158,23 +158,29 @@ module _ (values : List ℤ) (i j : ℕ) (s : Reply) (l : i ≤ j) (h : j < leng
   found-told = t.2
 
   pub found_inside : (i ≤ found.place.0) × (found.place.0 ≤ j)
-  found_inside = (omega (arith, t.1.from), omega (arith, t.1.from, t.1.to, long))
+  found_inside =
+      let n = length-take-le (j + 1) values (omega arith) in
+      (omega (arith, t.1.from), omega (arith, t.1.from, t.1.to, n))
 
   pub found_stands : get_or values found.place.0 (pos 0) ≡ found.value
-  found_stands = rw (get_or-take (j + 1) values found.place.0 (pos 0) (omega (arith, found_inside.1))) at t.1.stands
+  found_stands =
+      let n = length-take-le (j + 1) values (omega arith) in
+      rw (get_or-take (j + 1) values found.place.0 (pos 0) (omega (arith, t.1.from, t.1.to, n))) at t.1.stands
 
   pub found_least : (k : ℕ) → i ≤ k → k ≤ j → le_z found.value (get_or values k (pos 0)) ≡ true
   found_least k a e =
       let back : k + 1 - 1 ≡ k = omega arith in
-      let r = t.1.least (record { 0 = k + 1 }) (omega arith) (omega (arith, long)) in
+      let n = length-take-le (j + 1) values (omega arith) in
+      let r = t.1.least (record { 0 = k + 1 }) (omega arith) (omega (arith, n)) in
       rw (back, get_or-take (j + 1) values k (pos 0) (omega arith)) at r
 
   -- "The window and stored takes follow the same rule" (point 5)
   pub found_earliest : (k : ℕ) → i ≤ k → k < found.place.0 → le_z (get_or values k (pos 0)) found.value ≡ false
   found_earliest k a e =
       let back : k + 1 - 1 ≡ k = omega arith in
+      let n = length-take-le (j + 1) values (omega arith) in
       let r = t.1.earliest (record { 0 = k + 1 }) (omega arith) (omega (arith, t.1.from)) in
-      rw (back, get_or-take (j + 1) values k (pos 0) (omega (arith, found_inside.1))) at r
+      rw (back, get_or-take (j + 1) values k (pos 0) (omega (arith, t.1.from, t.1.to, n))) at r
 
   -- and nothing else is: whatever stands in the range, with no value there lower and each earlier one there higher, is what is told
   pub found_only : (f : Found) → i ≤ f.place.0 → f.place.0 ≤ j → get_or values f.place.0 (pos 0) ≡ f.value
@@ -184,13 +190,14 @@ module _ (values : List ℤ) (i j : ℕ) (s : Reply) (l : i ≤ j) (h : j < leng
   found_only f a e v low early =
       let at : (k : ℕ) → k ≤ j → get_or (take (j + 1) values) k (pos 0) ≡ get_or values k (pos 0) = λ k b. get_or-take (j + 1) values k (pos 0) (omega arith) in
       let back : f.place.0 + 1 - 1 ≡ f.place.0 = omega arith in
+      let n = length-take-le (j + 1) values (omega arith) in
       let other : Minimum = record { value = f.value; place = record { 0 = f.place.0 + 1 } } in
       let is : Least (take (j + 1) values) (record { 0 = i + 1 }) other = record {
         some = omega arith;
         from = omega arith;
-        to = omega (arith, long);
+        to = omega (arith, n);
         stands = rw (back, at f.place.0 e) v;
-        least = λ k b t. rw (at (k.0 - 1) (omega (arith, long))) (low (k.0 - 1) (omega arith) (omega (arith, long)));
+        least = λ k b t. rw (at (k.0 - 1) (omega (arith, n))) (low (k.0 - 1) (omega arith) (omega (arith, n)));
         earliest = λ k b t. rw (at (k.0 - 1) (omega arith)) (early (k.0 - 1) (omega arith) (omega arith));
       } in
       found-told ∙ ap (λ (x : Minimum). showing (from_zero x)) (least_only (take (j + 1) values) (record { 0 = i + 1 }) m other t.1 is)
@@ -200,49 +207,49 @@ module _ (values : List ℤ) (i j : ℕ) (s : Reply) (l : i ≤ j) (h : j < leng
 module _ (values index : List ℤ) (i j : ℕ) (r : Reply) (q : Searched values index i j r) where
   -- "before it, 15 when the index length is not the number of blocks", whatever i and j are
   pub fifteen : (length index ≡ (length values + 63) / 64 → ⊥) → told r ≡ numbered 15
-  fifteen n = (point_3.searching values index i j r q).other_index n
+  fifteen n = (functions.point_3.searching values index i j r q).other_index n
 
   -- "14 when i exceeds j or j is not below the take's length"
   pub fourteen_exceeds : length index ≡ (length values + 63) / 64 → j < i → told r ≡ numbered 14
-  fourteen_exceeds n l = (point_3.searching values index i j r q).outside n (inl l)
+  fourteen_exceeds n l = (functions.point_3.searching values index i j r q).outside n (inl l)
 
   pub fourteen_beyond : length index ≡ (length values + 63) / 64 → length values ≤ j → told r ≡ numbered 14
-  fourteen_beyond n l = (point_3.searching values index i j r q).outside n (inr l)
+  fourteen_beyond n l = (functions.point_3.searching values index i j r q).outside n (inr l)
 
   -- and else a value and a place in the range are shown
   pub shown_inside : length index ≡ (length values + 63) / 64 → i ≤ j → j < length values → (f : Found) × (told r ≡ showing f) × (i ≤ f.place.0) × (f.place.0 ≤ j)
-  shown_inside n l h = (point_3.searching values index i j r q).shows n l h
+  shown_inside n l h = (functions.point_3.searching values index i j r q).shows n l h
 
   -- "Correct replies presuppose an index built from that take"
   pub shown_least : index ≡ block_minima values → i ≤ j → j < length values → TellsLeast values i j r
-  shown_least e l h = (point_3.searching values index i j r q).least e l h
+  shown_least e l h = (functions.point_3.searching values index i j r q).least e l h
 
 -- a search over the index that was built
 searched_built : (values before after : List ℤ) (b s : Reply) (i j : ℕ) → Built values before after b → Searched values after i j s
     → length before ≡ (length values + 63) / 64 → i ≤ j → j < length values → TellsLeast values i j s
-searched_built values before after b s i j p q n l h = point_3.built values before after b s i j p q n l h
+searched_built values before after b s i j p q n l h = functions.point_3.built values before after b s i j p q n l h
 
 -- A STRETCH, of any take, which starts at `at`. "as part of the player's own take": the part starts where the take's value i lies, four bytes a value
 module _ (at : ℕ × ℕ) (values : List ℤ) (i j : ℕ) (start : ℕ × ℕ) (part : List ℤ) (q : Stretched at values i j start part) where
   pub stretch_long : i ≤ j → j < length values → length part ≡ j - i + 1
-  stretch_long l h = (point_3.stretching at values i j start part q).long l h
+  stretch_long l h = (functions.point_3.stretching at values i j start part q).long l h
 
   pub stretch_same : i ≤ j → j < length values → (k : ℕ) → i + k ≤ j → get_or part k (pos 0) ≡ get_or values (i + k) (pos 0)
-  stretch_same l h k m = (point_3.stretching at values i j start part q).same l h k m
+  stretch_same l h k m = (functions.point_3.stretching at values i j start part q).same l h k m
 
   pub stretch_own : i ≤ j → j < length values → start ≡ (at.0, i * 4 + at.1)
-  stretch_own l h = (point_3.stretching at values i j start part q).own l h
+  stretch_own l h = (functions.point_3.stretching at values i j start part q).own l h
 
   -- "for an i and j that get 14, the stretch is empty"
   pub stretch_exceeds : j < i → part ≡ []
-  stretch_exceeds l = (point_3.stretching at values i j start part q).empty (inl l)
+  stretch_exceeds l = (functions.point_3.stretching at values i j start part q).empty (inl l)
 
   pub stretch_beyond : length values ≤ j → part ≡ []
-  stretch_beyond l = (point_3.stretching at values i j start part q).empty (inr l)
+  stretch_beyond l = (functions.point_3.stretching at values i j start part q).empty (inr l)
 
   -- and starts where the take does
   pub nothing_exceeds : j < i → start ≡ at
-  nothing_exceeds l = (point_3.stretching at values i j start part q).nothing (inl l)
+  nothing_exceeds l = (functions.point_3.stretching at values i j start part q).nothing (inl l)
 
   pub nothing_beyond : length values ≤ j → start ≡ at
-  nothing_beyond l = (point_3.stretching at values i j start part q).nothing (inr l)
+  nothing_beyond l = (functions.point_3.stretching at values i j start part q).nothing (inr l)

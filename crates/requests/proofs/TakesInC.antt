@@ -1,12 +1,11 @@
 -- POINT 3 of document 02, of the two functions that C calls. What C is told by each is `Learnt`, the reading that the checker makes of the `ensures` as it stands in the source. It is used in the
 -- numbers that C sees and the places of its own arrays, clause by clause, for any take, any index and any range. So a clause that is dropped, or that gains a hypothesis or an alternative, no
 -- longer proves what stands here.
-use mathlib.Core.Path.{◌≡◌, refl, ap, ◌∙◌}
+use mathlib.Core.Path.{◌≡◌, refl}
 use mathlib.Core.Bool.{true, false}
 use mathlib.Core.List.{List, [], ◌∷◌}
 use mathlib.Core.Logic.{◌⊎◌}
 use Prim.Native.Nat.{ℕ, ◌+◌, ◌/◌, ◌<◌, ◌≤◌}
-use native.Mathlib.Decide.{ℕ_discrete}
 use native.Mathlib.Omega.{arith}
 use lib.IntN.{ℤ, pos}
 use lib.Signed.{le_z}
@@ -16,9 +15,8 @@ use denote.Ref.{Bor, MutBor, at_last}
 use denote.Signature.{plain}
 use denote.Builtin.{SliceRefOf, SliceRefMutOf, usize, u32, i32}
 use denote.Struct.Field.{usize-field, u32-field, i32-field}
-use Rattle.history.specs.Replies.{showing}
 use Rattle.blocks.specs.declared.Reply.{Reply}
-use Rattle.blocks.specs.Takes.{Told, block_count, block_minima, told}
+use Rattle.blocks.specs.Takes.{block_minima, told}
 use Rattle.blocks.specs.Calls.{Builds, Searches, Stretches}
 use Rattle.blocks.specs.Promises.{TellsLeast, Point3}
 use Rattle.blocks.proofs.Point as point
@@ -29,6 +27,7 @@ use Rattle.firmware.specs.contracts.filkotar_build as build-function
 use Rattle.firmware.proofs.filkotar_build.Reads as build-reads
 use Rattle.firmware.specs.contracts.filkotar_search as search-function
 use Rattle.firmware.proofs.filkotar_search.Reads as search-reads
+use Rattle.requests.proofs.TakesInCSteps as steps
 use Rattle.requests.proofs.Takes.{found-told, found_inside, found_stands, found_least, found_earliest}
 
 -- THE TYPES are those of include/filkotar.h, where a slice is a pointer and a length: the numbers of what is found, in this order, and what each function takes and gives
@@ -80,18 +79,14 @@ point_3 = point.point_3 Builds Searches Stretches (λ values before after r d. d
 -- BUILDING. "Building writes every index entry and nothing else"; "15 .. also when building, which then writes nothing"
 module _ (values before after : List ℤ) (r : ℕ) (t : BuildTold values before after r) where
   build_0 : length before ≡ (length values + 63) / 64 → (r ≡ 0) × (after ≡ block_minima values)
-  build_0 n =
-      let w = (point_3.building values before after t.3.reply t.3.builds).writes n in
-      (t.3.number ∙ ap (λ (x : Told). x.number) w.0, w.1)
+  build_0 = steps.build_0 values before after r t
 
   build_15 : (length before ≡ (length values + 63) / 64 → ⊥) → (r ≡ 15) × (after ≡ before)
-  build_15 n =
-      let w = (point_3.building values before after t.3.reply t.3.builds).refused n in
-      (t.3.number ∙ ap (λ (x : Told). x.number) w.0, w.1)
+  build_15 = steps.build_15 values before after r t
 
   -- so 0 says that the index is the take's
   pub built : r ≡ 0 → after ≡ block_minima values
-  built z = elim (ℕ_discrete (length before) (block_count (length values))) [ yes n ↦ (build_0 n).1 | no n ↦ absurd (omega (arith, (build_15 n).0)) ]
+  built = steps.built values before after r t
 
 -- THE LEAST VALUE from take[i] to take[j] is what r shows, at the earliest of its places (points 3 and 5)
 pub record Shows (values : List ℤ) (i j : ℕ) (r : FoundNumbers) : Type 0 where
@@ -118,37 +113,35 @@ tells values i j a r e l h t =
 module _ (values index : List ℤ) (i j : ℕ) (r : FoundNumbers) (t : SearchTold values index i j r) where
   -- "14 when i exceeds j or j is not below the take's length; before it, 15 when the index length is not the number of blocks": for any i and j
   search_15 : (length index ≡ (length values + 63) / 64 → ⊥) → r ≡ plainly 15
-  search_15 n = t.3.numbers ∙ ap in_numbers ((point_3.searching values index i j t.3.reply t.3.searches).other_index n)
+  search_15 = steps.search_15 values index i j r t
 
   search_14 : length index ≡ (length values + 63) / 64 → (j < i) ⊎ (length values ≤ j) → r ≡ plainly 14
-  search_14 n o = t.3.numbers ∙ ap in_numbers ((point_3.searching values index i j t.3.reply t.3.searches).outside n o)
+  search_14 = steps.search_14 values index i j r t
 
   -- else it is accepted, and "the value and place shown are its own choice", with the place in the range
   search_0 : length index ≡ (length values + 63) / 64 → i ≤ j → j < length values → (r.number ≡ 0) × (i ≤ r.place) × (r.place ≤ j)
-  search_0 n l h =
-      let (f, s, a, b) = (point_3.searching values index i j t.3.reply t.3.searches).shows n l h in
-      let e : r ≡ in_numbers (showing f) = t.3.numbers ∙ ap in_numbers s in
-      rw e (refl, a, b)
+  search_0 = steps.search_0 values index i j r t
 
   -- where all of the range lies above 2^32 − 1, so does the place
   search_far : length index ≡ (length values + 63) / 64 → 4294967296 ≤ i → i ≤ j → j < length values → (r.number ≡ 0) × (4294967296 ≤ r.place)
-  search_far n f l h = let a = search_0 n l h in (a.0, omega (arith, a.1))
+  search_far n f l h = let a = steps.search_0 values index i j r t n l h in (a.0, omega (arith, a.1))
 
   -- "Correct replies presuppose an index built from that take": then it is the least value, with its earliest place
   search_least : index ≡ block_minima values → i ≤ j → j < length values → Shows values i j r
-  search_least e l h = tells values i j t.3.reply r t.3.numbers l h ((point_3.searching values index i j t.3.reply t.3.searches).least e l h)
+  search_least e l h =
+      let s = steps.search_least values index i j r t e l h in
+      record { accepted = s.accepted; from = s.from; to = s.to; stands = s.stands; least = s.least; earliest = s.earliest }
 
 -- as C uses it: an index is built with reply 0, whatever it held, and then searched
 built_and_searched : (values before after : List ℤ) (i j : ℕ) (r : FoundNumbers) → BuildTold values before after 0 → SearchTold values after i j r
     → i ≤ j → j < length values → Shows values i j r
-built_and_searched values before after i j r b s = search_least values after i j r s (built values before after 0 b refl)
+built_and_searched values before after i j r b t l h =
+    let s = steps.search_least values after i j r t (steps.built values before after 0 b refl) l h in
+    record { accepted = s.accepted; from = s.from; to = s.to; stands = s.stands; least = s.least; earliest = s.earliest }
 
--- THE CONVERSES: no more is learnt of the functions that C calls than their contracts say, so that what stands above is of all that these allow. The references may be any
-any : MutBor (List ℤ)
-any = record { ref_ptr = (0, 0); ghost_name = 0; now = [] }
-
+-- THE CONVERSES: no more is learnt of the functions that C calls than their contracts say, so that what stands above is of all that these allow
 build_told_of : (values before after : List ℤ) (a : Reply) → Builds values before after a → BuildTold values before after (told a).number
-build_told_of values before after a d = (([], ([], tt)), (0, 0), any, record { reply = a; builds = d; number = refl })
+build_told_of = steps.build_learnt_of
 
 search_told_of : (values index : List ℤ) (i j : ℕ) (a : Reply) → Searches values index i j a → SearchTold values index i j (in_numbers (told a))
-search_told_of values index i j a d = (([], ([], tt)), (0, 0), (0, 0), record { reply = a; searches = d; numbers = refl })
+search_told_of = steps.search_learnt_of
