@@ -1,13 +1,11 @@
 // The stack of source document 000 in a lane: an entry for each run of rows that share a range minimum.
 #![tactic(auto)]
 
-ghost use Rattle.std.specs.Prelude.{◌≡◌, ◌<◌};
+ghost use Rattle.std.specs.Prelude.{◌<◌};
 ghost use Rattle.layout.specs.Words.{Room};
-ghost use Rattle.stack.specs.Packing.{packed, unpacked};
 ghost use Rattle.stack.specs.Calls.{Lowered, Pushed, Entered, Looked, Advanced};
 ghost use Rattle.stack.specs.Private.{Parted, Onward, Located};
 
-use history::{Minimum, Position};
 use layout::{Held, Lane, Place};
 
 // What a look at the stack finds: the word of a minimum.
@@ -19,24 +17,6 @@ pub enum Low {
 
 // The entries that a value passes one by one, from the top down. What lies below them is searched by halves.
 const LOOKS: usize = 4;
-
-// A minimum as a word. The order of words is that of the values and, among equal values, that of the choice: the earlier place is the lower word.
-pub fn pack(m: Minimum) -> u64
-    ensures { (result ≡ packed m) × (unpacked result ≡ m) }
-{
-    let place = m.place;
-    signed::to_word(m.value) * 4294967296 + place.0 as u64
-}
-
-// The minimum of a word, so that every word has one.
-pub fn unpack(word: u64) -> Minimum
-    ensures { result ≡ unpacked word }
-{
-    Minimum {
-        value: signed::from_word(word / 4294967296),
-        place: Position((word % 4294967296) as u32),
-    }
-}
 
 // The lowest of the places below `top` whose entry is above a word, or `top` where none is: by halves (source document 000, Theorem 3).
 fn by_halves(area: &[u64], lane: Lane, top: Place, word: u64) -> Place

@@ -17,7 +17,7 @@ use Rattle.history.specs.Minima.{takes_over, lower, stands_at}
 use Rattle.signed.specs.Word.{word_of, lower_half, value_of}
 use Rattle.signed.proofs.Offset.{up_small, down_small, back}
 use Rattle.signed.proofs.Ordered.{ordered}
-use Rattle.stack.specs.Packing.{packed, Faithful}
+use Rattle.packing.specs.Packing.{packed, Faithful}
 
 -- a minimum of 32 bits each reads back
 pub reads_back : (m : Minimum) → SFits w32 m.value → m.place.0 < 4294967296 → Faithful m
