@@ -2,7 +2,7 @@
 -- position that they do not hold is not active, and one that they hold is, with its range minimum. A Close of it leaves the marks without it, and the count with one less.
 use mathlib.Core.Path.{◌≡◌, refl, sym, ap, subst, ◌∙◌}
 use mathlib.Core.List.{List, [], ◌∷◌}
-use mathlib.Core.Option.{none, some}
+use Rattle.std.specs.Prelude.{Option, None, Some, Ok}
 use mathlib.Core.Bool.{Bool, true, false, cond, false≢true}
 use Prim.Native.Nat.{ℕ, ◌-◌, ◌<◌, ◌≤◌}
 use native.Mathlib.Omega.{arith}
@@ -13,7 +13,6 @@ use Rattle.history.specs.declared.Session.{Session}
 use Rattle.history.specs.declared.Command.{Command}
 use Rattle.history.specs.declared.Command.TheVariants.{Query, Close}
 use Rattle.history.specs.declared.Refusal.TheVariants.{NotActive}
-use Rattle.history.specs.declared.Reply.TheVariants.{Lowest}
 use Rattle.history.specs.Minima.{stands_at, minimum}
 use Rattle.history.specs.Replies.{showing, refusal}
 use Rattle.history.specs.Standings.{event_of, transition_of}
@@ -59,24 +58,24 @@ module _ (s : Session) (w : List ℕ) (i : Position) (z : s.words ≡ 0 → ⊥)
 
   -- A QUERY of a position that can be active
   module _ (r : Shown) (q : LookedUp w i r) where
-    shown : (h : History) (first : List ℕ) → Holds h first w → minimum_of r ≡ cond (among i h.active) (some (minimum h.values i)) none
+    shown : (h : History) (first : List ℕ) → Holds h first w → minimum_of r ≡ cond (among i h.active) (Some (minimum h.values i)) None
     shown h first k = q.holds h first k
 
     -- nothing is shown of a position that is active
-    pub query_lost : minimum_of r ≡ none → Does s (Query i) w w (refused_with s NotActive)
+    pub query_lost : minimum_of r ≡ None → Does s (Query i) w w (refused_with s NotActive)
     query_lost e = inactive (Query i) a_query (λ h first _ t.
         refuted (among i h.active) (λ a.
-        let f : none ≡ some (minimum h.values i) =
-        sym e ∙ shown h first (own_of (Query i) s w z o t) ∙ ap (λ (b : Bool). cond b (some (minimum h.values i)) none) a in
+        let f : None ≡ Some (minimum h.values i) =
+        sym e ∙ shown h first (own_of (Query i) s w z o t) ∙ ap (λ (b : Bool). cond b (Some (minimum h.values i)) None) a in
         let y : ◌≡◌ {A = ℕ} 0 1 = cc in omega arith))
 
-    module _ (m : Minimum) (e : minimum_of r ≡ some m) where
+    module _ (m : Minimum) (e : minimum_of r ≡ Some m) where
       -- and of one that is not nothing
-      is_shown : (b : Bool) (d : Minimum) → some m ≡ cond b (some d) none → (b ≡ true) × (m ≡ d)
+      is_shown : (b : Bool) (d : Minimum) → Some m ≡ cond b (Some d) None → (b ≡ true) × (m ≡ d)
       is_shown true d f = (refl, cc)
       is_shown false d f = absurd (let y : ◌≡◌ {A = ℕ} 0 1 = cc in omega arith)
 
-      pub query_done : 0 < i.0 → i.0 ≤ s.present.0 → Does s (Query i) w w (record { reply = Lowest m; session = s })
+      pub query_done : 0 < i.0 → i.0 ≤ s.present.0 → Does s (Query i) w w (record { reply = Ok (Some m); session = s })
       query_done l b =
           does_accepted (Query i) s w true (λ _. (l, b)) refl (due_to (Query i) a_query true)
           (record { counted = 0; found = m; tells = refl; session = refl; unaltered = refl })

@@ -55,7 +55,7 @@ pub struct Session {
     pub standing: Standing,
 }
 
-// Why a command, an opening or a reading is refused: document 01's list, then document 02's. The number of each is `number`.
+// Why a command, an opening or a reading is refused: document 01's list, then document 02's, in whose order `u8::from` numbers them.
 #[derive(Clone, Copy, PartialEq, Eq)]
 pub enum Refusal {
     AreaTooShort,
