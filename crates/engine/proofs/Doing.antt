@@ -20,7 +20,7 @@ use Rattle.history.specs.Replies.{numbered, number_of, told, own_refusal, lent_r
 use Rattle.history.specs.Histories.{History, session_of, is_active, accept, refusal_of, step}
 use Rattle.history.specs.Sessions.{count_after, session_after}
 use Rattle.history.specs.Sound.{Sound}
-use Rattle.history.proofs.Steps.{some_number, lent_due, refused, step-refused, step_accepted}
+use Rattle.history.proofs.Steps.{some_number, lent_due, lent_none, refused, step-refused, step_accepted}
 use Rattle.history.proofs.Following.{session_follows}
 use Rattle.engine.specs.Promises.{AfterAcceptance, Possible}
 use Rattle.ranges.specs.Holding.{Holds}
@@ -31,6 +31,10 @@ use Rattle.engine.specs.Private.{refused_with, accepted_with}
 -- what is to be shown of every history that the session and the words represent
 abbrev pub ForEach : Session → List ℕ → (History → List ℕ → Type 0) → Type 0
 ForEach s w P = (h : History) (first : List ℕ) → Sound h → Represents h first s w → P h first
+
+-- where the lengths refuse nothing, the session is opened and the words are as many
+pub opened : (words n : ℕ) → 0 ≡ lent_refusal words n 0 → (words ≡ 0 → ⊥) × (n ≡ words)
+opened words n e = let l = lent_none words n 0 (sym e) in (l.0, l.1)
 
 module _ (c : Command) (s : Session) (w : List ℕ) where
   -- what the bookkeeper finds due is the refusal of the session
@@ -112,7 +116,7 @@ does_full s w m e n = record {
   represents = λ h first q r. absurd (n h first q r);
 }
 
--- an answer that `accept` makes, of parts that are those it should have
-pub does_with : {c : Command} {s : Session} {w after : List ℕ} {r : Answer} {p : Position} {l m : ℤ} {a b : ℕ} {j k : Standing}
-    → r ≡ accepted_with s p l a j → l ≡ m → a ≡ b → j ≡ k → Does s c w after (accepted_with s p m b k) → Does s c w after r
-does_with e l a j d = rw (e, l, a, j) d
+-- an acceptance, of parts that are those it should have
+pub does_with : {c : Command} {s : Session} {w after : List ℕ} {p q : Position} {l m : ℤ} {a b : ℕ} {j k : Standing}
+    → p ≡ q → l ≡ m → a ≡ b → j ≡ k → Does s c w after (accepted_with s q m b k) → Does s c w after (accepted_with s p l a j)
+does_with p l a j d = rw (p, l, a, j) d

@@ -1,5 +1,5 @@
 -- The ways out of a Value on an area of the opened length. At the last position it is refused with 6. Else each mark's minimum is lowered by it, as the history's is.
-use mathlib.Core.Path.{◌≡◌, refl, ap, ◌∙◌}
+use mathlib.Core.Path.{◌≡◌, refl, sym, ap, ◌∙◌}
 use mathlib.Core.List.{List}
 use mathlib.Core.Bool.{Bool, false}
 use Prim.Native.Nat.{ℕ}

@@ -4,12 +4,10 @@
 
 ghost use Rattle.std.specs.Prelude.{◌≡◌, ◌<◌, length};
 ghost use Rattle.history.specs.declared.Command.TheVariants.{Value, Mark, Query, Close};
-ghost use Rattle.history.specs.declared.Event.{Event};
 ghost use Rattle.history.specs.Minima.{stands_at};
-ghost use Rattle.history.specs.Standings.{allowing, transition_of};
 ghost use Rattle.history.specs.Histories.{limit_of};
 ghost use Rattle.engine.specs.Calls.{Opens, Does};
-ghost use Rattle.engine.specs.Private.{refused_with, accepted_with, Within};
+ghost use Rattle.engine.specs.Private.{answered, shown, Within};
 
 use history::{Answer, Command, Event, Minimum, Position, Refusal, Session, Standing};
 
