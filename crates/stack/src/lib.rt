@@ -1,51 +1,30 @@
 // The stack of source document 000 in a lane: an entry for each run of rows that share a range minimum.
 #![tactic(auto)]
 
-ghost use Rattle.std.specs.Prelude.{◌<◌};
+ghost use Rattle.std.specs.Prelude.{◌≡◌, ◌+◌, ◌<◌};
 ghost use Rattle.layout.specs.Words.{Room};
 ghost use Rattle.stack.specs.Calls.{Lowered, Pushed, Entered, Looked, Advanced};
-ghost use Rattle.stack.specs.Private.{Parted, Onward, Located};
+ghost use Rattle.stack.specs.Private.{is_above, Parted, starts_by, run_starts_by, Located};
 
-use layout::{Extent, Held, Lane, Place};
+use layout::{Extent, Held, Place};
 
 // The entries that a value looks at one by one, from the top down. What lies below them is searched by halves.
 const LOOKS: usize = 5;
 
-// The lowest of the places below `top` whose entry is above a word, or `top` where none is: by halves (source document 000, Theorem 3).
-fn by_halves(area: &[u64], lane: Lane, top: Place, word: u64) -> Place
-    requires { Room area.now top.0 }
-    ensures { Parted area.now lane top word result }
-{
-    let mut low = 0;
-    let mut size = top.0;
-    while 0 < size {
-        let half = size / 2;
-        if word < area[lane.least(Place(low + half))] {
-            size = half;
-        } else {
-            low += half + 1;
-            size -= half + 1;
-        }
-    }
-    Place(low)
-}
-
-// The same, with a few looks from the top down first.
+// The lowest of a stack's places whose entry is above a word, or its height where none is: some looks from the top down, and then by halves (source document 000, Theorem 3).
 fn taken_over(area: &[u64], e: Extent, word: u64) -> Place
     requires { Room area.now e.height.0 }
     ensures { Parted area.now e.lane e.height word result }
 {
-    let mut k = e.height.0;
-    for _ in 0..LOOKS {
-        if k == 0 {
-            return Place(k);
-        }
-        if area[e.lane.least(Place(k - 1))] <= word {
-            return Place(k);
-        }
-        k -= 1;
-    }
-    by_halves(area, e.lane, Place(k), word)
+    let lane = e.lane;
+    Place(halves::first_near_top(
+        e.height.0,
+        LOOKS,
+        |k: usize| -> bool
+            requires { Room area.now (k + 1) }
+            ensures { result ≡ is_above area.entry.now lane word k }
+        { word < area[lane.least(Place(k))] },
+    ))
 }
 
 // A value comes, as a word. The entries above it are popped, and the lowest of them holds it from then on, with all their runs. The new height.
@@ -117,13 +96,12 @@ pub fn advance(area: &[u64], e: Extent, place: Place, row: Held) -> Place
     next
 }
 
-// How far the search goes on: by half where the run there starts at the row or below it, else not. It is arithmetic because a branch
-// would be guessed wrong every other time.
-fn onward(half: usize, first: Held, row: Held) -> usize
-    requires { (half < 65536) × (first.0 < 65536) × (row.0 < 65536) }
-    ensures { Onward half first row result }
+// 1 of a run that starts at the row or below it, else 0. It is arithmetic because a branch would be guessed wrong every other time.
+fn starts_by(first: Held, row: Held) -> usize
+    requires { (first.0 < 65536) × (row.0 < 65536) }
+    ensures { result ≡ starts_by first row }
 {
-    half * ((65536 + row.0 - first.0) / 65536)
+    (65536 + row.0 - first.0) / 65536
 }
 
 // The place whose run has a row: a predecessor search over the runs' first rows (source document 000, Theorem 3). No lane has 65,536
@@ -132,16 +110,15 @@ fn covering(area: &[u64], e: Extent, held: Held) -> Place
     requires { Room area.now e.height.0 }
     ensures { Located area.now e.lane e.height held result }
 {
-    let row = held.0 % 65536;
-    let mut low = 0;
-    let mut size = e.height.0;
-    while 1 < size {
-        let half = size / 2;
-        let first = (area[e.lane.first(Place(low + half))] % 65536) as usize;
-        low += onward(half, Held(first), Held(row));
-        size -= half;
-    }
-    Place(low)
+    let lane = e.lane;
+    let row = Held(held.0 % 65536);
+    Place(halves::last_where(
+        e.height.0,
+        |k: usize| -> usize
+            requires { Room area.now (k + 1) × (row.0 < 65536) }
+            ensures { result ≡ run_starts_by area.entry.now lane row k }
+        { starts_by(Held(area[lane.first(Place(k))] as usize % 65536), row) },
+    ))
 }
 
 // The minimum that the stack has for a row, as a word.
