@@ -1,11 +1,11 @@
 -- POINT 3 of document 02, in other words than the definitions': what holds of building, of searching and of a stretch, for every take, every index and every range. The theorem is `point_3` of
 -- proofs/Tied, of the functions as they stand in the source.
 use Rattle.std.specs.Prelude.{◌≡◌, List, [], ◌⊎◌, ℕ, ◌+◌, ◌*◌, ◌-◌, ◌/◌, ◌%◌, ◌<◌, ◌≤◌, ℤ, pos, length, get_or, take, Result}
-use Rattle.history.specs.declared.Minimum.{Minimum}
+use Rattle.history.specs.Minimum.{Minimum}
 use Rattle.history.specs.declared.Refusal.{Refusal}
 use Rattle.history.specs.Minima.{Least}
 use Rattle.history.specs.Replies.{numbered, showing}
-use Rattle.blocks.specs.declared.Found.{Found}
+use Rattle.blocks.specs.Found.{Found}
 use Rattle.blocks.specs.Takes.{from_zero, block_of, block_count, block_minima, told, told_building}
 use Rattle.blocks.specs.Calls.{lies_at}
 

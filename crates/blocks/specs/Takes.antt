@@ -1,11 +1,11 @@
 -- Document 02, point 3, stored takes: "a lent list of signed values numbered from 0". What is the least of a range, what an index holds, what is refused, and what a stretch is; with what the rough
 -- reading of point 6 shares with a search. Of the program there are only declared types here: a minimum, an offset with what is found there, and a refusal. In these files a take is `values`; `take n` is of lists, their first n elements.
 use Rattle.std.specs.Prelude.{cond, ◌||◌, List, [], ◌∷◌, ℕ, zero, suc, ◌+◌, ◌*◌, ◌-◌, ◌/◌, eqb, leb, ltb, ℤ, length, take, drop, Option, None, Some, Result, Ok, Err}
-use Rattle.history.specs.declared.Minimum.{Minimum}
+use Rattle.history.specs.Minimum.{Minimum}
 use Rattle.history.specs.declared.Refusal.{Refusal}
 use Rattle.history.specs.Minima.{minimum}
 use Rattle.history.specs.Replies.{ToldOf, numbered, showing, number_of}
-use Rattle.blocks.specs.declared.Found.{Found}
+use Rattle.blocks.specs.Found.{Found}
 
 -- "numbered from 0": what stands at position k of a stream, counted from 1, stands at offset k − 1 of a take
 abbrev pub from_zero : Minimum → Found

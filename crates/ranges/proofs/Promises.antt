@@ -12,7 +12,7 @@ use lib.ListN.{length, get_or, set, length-set}
 use lib.Seq.{get_or-set_same, get_or-set_other}
 use borrow.Author.Count.{below_none, below_more}
 use Rattle.history.specs.declared.Position.{Position}
-use Rattle.history.specs.declared.Minimum.{Minimum}
+use Rattle.history.specs.Minimum.{Minimum}
 use Rattle.history.specs.declared.Command.TheVariants.{Close}
 use Rattle.history.specs.Minima.{minimum}
 use Rattle.history.specs.Histories.{History, Stepped, accept, among, limit_of}
@@ -30,7 +30,7 @@ use Rattle.table.specs.Marks.{Live, released}
 use Rattle.table.specs.Calls.{row_of, Sought, Released}
 use Rattle.table.proofs.Closing.{release_within}
 use Rattle.stack.specs.declared.Low.{Low}
-use Rattle.stack.specs.Packing.{packed, unpacked, Faithful}
+use Rattle.packing.specs.Packing.{packed, unpacked, Faithful}
 use Rattle.stack.specs.Calls.{Lowered, word_shown, Looked}
 use Rattle.stack.proofs.Lowering.{lowered_within}
 use Rattle.stack.proofs.Rooms.{room_or_not}

@@ -4,7 +4,7 @@
 use Rattle.std.specs.Prelude.{◌≡◌, true, List, [], ◌∷◌, ◌++◌, ℕ, ◌+◌, ◌<◌, ◌≤◌, ℤ, length}
 use Rattle.std.proofs.Math.Option.{some}
 use Rattle.history.specs.declared.Position.{Position}
-use Rattle.history.specs.declared.Minimum.{Minimum}
+use Rattle.history.specs.Minimum.{Minimum}
 use Rattle.history.specs.declared.Command.TheVariants.{Query}
 use Rattle.history.specs.Minima.{Least, present_at}
 use Rattle.history.specs.Replies.{showing, told}
@@ -12,7 +12,7 @@ use Rattle.history.specs.Histories as Histories
 use Rattle.history.specs.Histories.{History, among}
 use Rattle.runs.specs.Runs.{AsLent, is_own, Call, Made, Agrees, EachCall}
 use Rattle.window.specs.declared.Window.{Window}
-use Rattle.window.specs.declared.Answer.{Answer}
+use Rattle.window.specs.Answers.{Answer}
 use Rattle.window.specs.Windows.{Paper, session_of, opening, oldest, refusal_of, step, model}
 use Rattle.window.specs.Promises.{OpeningSays, ValueSays, AnyOpening, AnyValue}
 
