@@ -6,7 +6,7 @@ ghost use Rattle.std.specs.Prelude.{◌≡◌, ◌+◌, ◌*◌, ◌<◌, ◌≤
 ghost use Rattle.layout.specs.Words.{Room};
 ghost use Rattle.table.specs.Marks.{bucket_of};
 ghost use Rattle.table.specs.Calls.{Sought, Inserted, Released};
-ghost use Rattle.table.specs.Private.{Onward, Halved, Walked};
+ghost use Rattle.table.specs.Private.{not_after, row_not_after, Halved, Walked};
 
 use history::Position;
 use layout::{Extent, Held};
@@ -32,15 +32,11 @@ fn active_mark(p: Position) -> u64
     2 * (p.0 as u64) + 1
 }
 
-// How far a search by halves goes on: to the row in the middle where its mark is not after the one sought, else not at all.
-fn onward(low: usize, half: usize, mark: u64, sought: u64) -> usize
-    requires { (low ≤ 8207) × (half ≤ 8207) }
-    ensures { Onward low half mark sought result }
+// 1 of a mark that is not after the one sought, else 0.
+fn not_after(mark: u64, sought: u64) -> usize
+    ensures { result ≡ not_after mark sought }
 {
-    if mark <= sought {
-        return low + half;
-    }
-    low
+    (mark <= sought) as usize
 }
 
 // The row of the active mark at a position by halves: the rows are in the order of their positions.
@@ -48,17 +44,17 @@ fn by_halves(area: &[u64], e: Extent, p: Position) -> Option<Held>
     requires { (0 < e.rows.0) × Room area.now e.rows.0 }
     ensures { Halved area.now e.lane e.rows p result }
 {
+    let lane = e.lane;
     let sought = active_mark(p);
-    let mut low = 0;
-    let mut size = e.rows.0;
-    while 1 < size {
-        let half = size / 2;
-        let mark = area[e.lane.mark(Held(low + half))];
-        low = onward(low, half, mark, sought);
-        size -= half;
-    }
-    if area[e.lane.mark(Held(low))] == sought {
-        return Some(Held(low));
+    let held = Held(halves::last_where(
+        e.rows.0,
+        |n: usize| -> usize
+            requires { Room area.now (n + 1) }
+            ensures { result ≡ row_not_after area.entry.now lane sought n }
+        { not_after(area[lane.mark(Held(n))], sought) },
+    ));
+    if area[lane.mark(held)] == sought {
+        return Some(held);
     }
     None
 }
