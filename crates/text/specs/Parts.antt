@@ -1,8 +1,10 @@
 -- Document 01, "Played examples": what lines are made of besides numbers: the space between two parts, the line's end, and a reply with what it shows.
-use Rattle.std.specs.Prelude.{List, [], ◌∷◌, ◌++◌, ℕ, ℤ}
+use Rattle.std.specs.Prelude as Prelude
+use Rattle.std.specs.Prelude.{List, [], ◌∷◌, ◌++◌, ℕ, ℤ, Some, None, Result, Ok, Err}
 use Rattle.std.proofs.Math.Option.{Option, none, some}
 use Rattle.history.specs.declared.Minimum.{Minimum}
-use Rattle.history.specs.Replies.{ToldOf, Told}
+use Rattle.history.specs.declared.Refusal.{Refusal}
+use Rattle.history.specs.Replies.{ToldOf, Told, number_of}
 use Rattle.text.specs.Writing.{decimal_of, signed_text}
 
 -- the parts of a line stand a space apart, and it ends with a line feed
@@ -31,3 +33,13 @@ told_text text t = decimal_of t.number ++ shown_text text t.shown
 
 abbrev pub reply_text : Told → List ℕ
 reply_text t = told_text minimum_text t
+
+-- in the program: what there is, if anything, by the text that it has
+abbrev pub optional_text : {Shown : Type 0} → (text : Shown → List ℕ) → Prelude.Option Shown → List ℕ
+optional_text text None = []
+optional_text text (Some shown) = text shown
+
+-- and the reply of a call, with what an acceptance shows
+abbrev pub replied_text : {Shown : Type 0} → (text : Shown → List ℕ) → Result Shown Refusal → List ℕ
+replied_text text (Ok shown) = decimal_of 0 ++ text shown
+replied_text text (Err why) = decimal_of (number_of why)
