@@ -12,7 +12,7 @@ use lib.Seq.{take-suc, length-take-le}
 use Rattle.laws.proofs.Tests.{clash, lt_or_ge}
 use Rattle.laws.proofs.Order.{le_z_refl}
 use Rattle.history.specs.declared.Position.{Position}
-use Rattle.history.specs.declared.Minimum.{Minimum}
+use Rattle.history.specs.Minimum.{Minimum}
 use Rattle.history.specs.Minima.{takes_over, lower, stands_at, next, lowest, present_at, minimum, Least}
 use Rattle.history.proofs.Lowest.{minimum_more, minimum_least}
 use Rattle.blocks.specs.Takes.{minimum_from, least_of}

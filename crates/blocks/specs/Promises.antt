@@ -1,7 +1,7 @@
 -- POINT 3 of document 02, in other words than the definitions': what holds of building, of searching and of a stretch, for every take, every index and every range. The theorem is `point_3` of
 -- proofs/Tied, of the functions as they stand in the source.
 use Rattle.std.specs.Prelude.{◌≡◌, List, [], ◌⊎◌, ℕ, ◌+◌, ◌*◌, ◌-◌, ◌/◌, ◌%◌, ◌<◌, ◌≤◌, ℤ, pos, length, get_or, take}
-use Rattle.history.specs.declared.Minimum.{Minimum}
+use Rattle.history.specs.Minimum.{Minimum}
 use Rattle.history.specs.Minima.{Least}
 use Rattle.history.specs.Replies.{numbered, showing}
 use Rattle.blocks.specs.declared.Found.{Found}

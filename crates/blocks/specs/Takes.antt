@@ -3,7 +3,7 @@
 -- refusal and a reply. In these files a take is `values`; `take n` is of lists, their first n elements.
 use Rattle.std.specs.Prelude.{cond, ◌||◌, List, [], ◌∷◌, ℕ, zero, suc, ◌+◌, ◌*◌, ◌-◌, ◌/◌, eqb, leb, ltb, ℤ, length, take, drop}
 use Rattle.std.proofs.Math.Option.{Option, none, some}
-use Rattle.history.specs.declared.Minimum.{Minimum}
+use Rattle.history.specs.Minimum.{Minimum}
 use Rattle.history.specs.declared.Due.{Due}
 use Rattle.history.specs.Minima.{minimum}
 use Rattle.history.specs.Replies.{ToldOf, numbered, showing, number_of}

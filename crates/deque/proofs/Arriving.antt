@@ -12,7 +12,7 @@ use lib.ListN.{length, get_or, set, length-set, length-append}
 use lib.Seq.{get_or-set_same, get_or-set_other}
 use borrow.Author.Tests.{leb-true, leb-false}
 use Rattle.history.specs.declared.Position.{Position}
-use Rattle.history.specs.declared.Minimum.{Minimum}
+use Rattle.history.specs.Minimum.{Minimum}
 use Rattle.history.specs.Minima.{stands_at, next, present_at, minimum}
 use Rattle.deque.specs.Suffixes.{start_of, SuffixMinima}
 use Rattle.deque.specs.Words.{front, count, place_in, unpacked, entry_word, entry_at, Twice, Room, Holds}

@@ -1,7 +1,7 @@
 -- What each function of the deque promises, of any words; and, where they hold a stream's suffix minima, that they go on doing so.
 use Rattle.std.specs.Prelude.{◌≡◌, true, false, List, [], ◌∷◌, ◌++◌, ◌⊎◌, ℕ, ◌+◌, ◌*◌, ◌-◌, ◌<◌, ◌≤◌, ℤ, length, get_or}
 use Rattle.history.specs.declared.Position.{Position}
-use Rattle.history.specs.declared.Minimum.{Minimum}
+use Rattle.history.specs.Minimum.{Minimum}
 use Rattle.history.specs.Minima.{takes_over, stands_at, next, present_at, minimum}
 use Rattle.deque.specs.Words.{unpacked, entry_at, Room, Holds}
 

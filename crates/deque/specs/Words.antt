@@ -1,7 +1,7 @@
 -- The deque in the lent words: word 0 is its header, and its entries stand behind it, an entry to a word.
 use Rattle.std.specs.Prelude.{◌≡◌, List, ℕ, ◌+◌, ◌*◌, ◌-◌, ◌/◌, ◌%◌, ◌<◌, ◌≤◌, ℤ, length, get_or}
 use Rattle.history.specs.declared.Position.{Position}
-use Rattle.history.specs.declared.Minimum.{Minimum}
+use Rattle.history.specs.Minimum.{Minimum}
 use Rattle.history.specs.Minima.{stands_at}
 use Rattle.signed.specs.Word.{word_of, value_of}
 use Rattle.deque.specs.Suffixes.{SuffixMinima}

@@ -7,7 +7,7 @@ use native.Mathlib.Omega.{arith}
 use lib.IntN.{ℤ}
 use lib.ListN.{length, length-append}
 use Rattle.history.specs.declared.Position.{Position}
-use Rattle.history.specs.declared.Minimum.{Minimum}
+use Rattle.history.specs.Minimum.{Minimum}
 use Rattle.history.specs.Minima.{stands_at, next, present_at, minimum}
 use Rattle.history.proofs.Lowest.{minimum_more, minimum_least, minimum_rises, minimum_later_place}
 use Rattle.layout.specs.declared.Held.{Held}

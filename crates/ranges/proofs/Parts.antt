@@ -8,7 +8,7 @@ use native.Mathlib.Omega.{arith}
 use lib.IntN.{ℤ}
 use lib.ListN.{length, take}
 use Rattle.history.specs.declared.Position.{Position}
-use Rattle.history.specs.declared.Minimum.{Minimum}
+use Rattle.history.specs.Minimum.{Minimum}
 use Rattle.history.specs.Minima.{takes_over, lower, minimum}
 use Rattle.history.proofs.TwoParts.{part_place, rest_place, parts_meet, minimum_parts}
 use Rattle.layout.specs.declared.Extent.{Extent}

@@ -12,7 +12,7 @@ use lib.ListN.{length, get_or, set, length-set}
 use lib.Seq.{get_or-set_same, get_or-set_other}
 use borrow.Author.Count.{below_none, below_more}
 use Rattle.history.specs.declared.Position.{Position}
-use Rattle.history.specs.declared.Minimum.{Minimum}
+use Rattle.history.specs.Minimum.{Minimum}
 use Rattle.history.specs.declared.Command.TheVariants.{Close}
 use Rattle.history.specs.Minima.{minimum}
 use Rattle.history.specs.Histories.{History, Stepped, accept, among, limit_of}

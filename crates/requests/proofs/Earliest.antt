@@ -9,7 +9,7 @@ use lib.IntN.{pos}
 use lib.ListN.{length, get_or}
 use lib.Signed.{le_z}
 use Rattle.history.specs.declared.Position.{Position}
-use Rattle.history.specs.declared.Minimum.{Minimum}
+use Rattle.history.specs.Minimum.{Minimum}
 use Rattle.history.specs.declared.Session.{Session}
 use Rattle.history.specs.declared.Command.TheVariants.{Value, Mark, Query}
 use Rattle.history.specs.declared.Answer.{Answer}

@@ -18,7 +18,7 @@ use denote.Signature.{plain}
 use denote.Builtin.{SliceRefOf, usize, i32}
 use Rattle.laws.proofs.Order.{le_z_trans}
 use Rattle.history.specs.declared.Position.{Position}
-use Rattle.history.specs.declared.Minimum.{Minimum}
+use Rattle.history.specs.Minimum.{Minimum}
 use Rattle.history.specs.Minima.{minimum}
 use Rattle.history.specs.Replies.{showing}
 use Rattle.history.proofs.Lowest.{minimum_least, least_only}

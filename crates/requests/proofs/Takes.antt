@@ -14,7 +14,7 @@ use contract.Lifetimes.{Lfts}
 use denote.Ref.{Bor, MutBor}
 use denote.Signature.{plain}
 use denote.Builtin.{SliceRefOf, usize, i32}
-use Rattle.history.specs.declared.Minimum.{Minimum}
+use Rattle.history.specs.Minimum.{Minimum}
 use Rattle.history.specs.Minima.{lowest, Least}
 use Rattle.history.specs.Replies.{numbered, showing}
 use Rattle.history.proofs.Lowest.{least_only}

@@ -14,7 +14,7 @@ use lib.Signed.{le_z}
 use contract.Lifetimes.{Lfts}
 use denote.Ref.{MutBor}
 use Rattle.history.specs.declared.Position.{Position}
-use Rattle.history.specs.declared.Minimum.{Minimum}
+use Rattle.history.specs.Minimum.{Minimum}
 use Rattle.history.specs.declared.Standing.TheVariants.{Unmarked}
 use Rattle.history.specs.declared.Command.TheVariants.{Query}
 use Rattle.history.specs.Minima.{stands_at, present_at, value_at}

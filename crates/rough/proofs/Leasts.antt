@@ -6,7 +6,7 @@ use mathlib.Core.Option.{some}
 use native.Mathlib.Omega.{arith}
 use lib.IntN.{ℤ}
 use Rattle.history.specs.declared.Position.{Position}
-use Rattle.history.specs.declared.Minimum.{Minimum}
+use Rattle.history.specs.Minimum.{Minimum}
 use Rattle.history.specs.Minima.{takes_over, lower, next, present_at, minimum}
 use Rattle.history.proofs.Parts.{minimum-behind, minimum-append}
 use Rattle.blocks.specs.Takes.{least_of}

@@ -12,7 +12,7 @@ use borrow.Author.Tests.{ltb-true, ltb-false}
 use mir.Syntax.{w32}
 use mir.Val.{SFits}
 use Rattle.laws.proofs.Order.{lt_z_le_z}
-use Rattle.history.specs.declared.Minimum.{Minimum}
+use Rattle.history.specs.Minimum.{Minimum}
 use Rattle.history.specs.Minima.{takes_over, lower, stands_at}
 use Rattle.signed.specs.Word.{word_of, lower_half, value_of}
 use Rattle.signed.proofs.Offset.{up_small, down_small, back}

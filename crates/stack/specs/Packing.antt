@@ -1,7 +1,7 @@
 -- A minimum as one word: its value, offset by 2 ^ 31, in the upper half and its place in the lower. A lower word is a lower value or, of equal values, an earlier place:
 -- "Among equal least values the place is the earliest" (document 02, point 5).
 use Rattle.std.specs.Prelude.{◌≡◌, ℕ, ◌+◌, ◌*◌, ◌/◌, ◌%◌}
-use Rattle.history.specs.declared.Minimum.{Minimum}
+use Rattle.history.specs.Minimum.{Minimum}
 use Rattle.history.specs.Minima.{stands_at}
 use Rattle.signed.specs.Word.{word_of, value_of}
 

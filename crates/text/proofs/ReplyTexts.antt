@@ -1,10 +1,14 @@
--- How large a refusal's number is at most.
+-- The text of a reply to a command, and how large a reply's number is at most.
+use mathlib.Core.Path.{◌≡◌, refl, sym}
+use mathlib.Core.List.{append-nil}
 use Prim.Native.Nat.{◌≤◌}
 use native.Mathlib.Omega.{arith}
 use lib.ListN.{length}
 use Rattle.history.specs.declared.Refusal.{Refusal}
-use Rattle.history.specs.Replies.{number_of}
+use Rattle.std.specs.Prelude.{None, Some, Ok, Err}
+use Rattle.history.specs.Replies.{Reply, number_of, told}
 use Rattle.text.specs.Writing.{decimal_of}
+use Rattle.text.specs.Parts.{minimum_text, shown_text, replied_text, reply_text}
 use Rattle.text.proofs.Decimals.{byte_few}
 
 -- a reply's number has no more than three digits: that of an acceptance, and that of a refusal
@@ -27,3 +31,9 @@ number_few Refusal.WidthOutOfRange = byte_few 12 (omega arith)
 number_few Refusal.TooFewWords = byte_few 13 (omega arith)
 number_few Refusal.RangeOutOfTake = byte_few 14 (omega arith)
 number_few Refusal.OtherIndexLength = byte_few 15 (omega arith)
+
+-- what is put of a reply to a command is what a caller is told
+pub replied_told : (reply : Reply) → replied_text (shown_text minimum_text) reply ≡ reply_text (told reply)
+replied_told (Ok None) = refl
+replied_told (Ok (Some m)) = refl
+replied_told (Err why) = sym (append-nil (decimal_of (number_of why)))

@@ -1,8 +1,7 @@
 -- Document 01, "Played examples": what lines are made of besides numbers: the space between two parts, the line's end, and a reply with what it shows.
-use Rattle.std.specs.Prelude as Prelude
-use Rattle.std.specs.Prelude.{List, [], ◌∷◌, ◌++◌, ℕ, ℤ, Some, None, Result, Ok, Err}
-use Rattle.std.proofs.Math.Option.{Option, none, some}
-use Rattle.history.specs.declared.Minimum.{Minimum}
+use Rattle.std.specs.Prelude.{List, [], ◌∷◌, ◌++◌, ℕ, ℤ, Option, None, Some, Result, Ok, Err}
+use Rattle.history.specs.Minimum.{Minimum}
+use Rattle.history.specs.declared.RangeMinimum.{RangeMinimum}
 use Rattle.history.specs.declared.Refusal.{Refusal}
 use Rattle.history.specs.Replies.{ToldOf, Told, number_of}
 use Rattle.text.specs.Writing.{decimal_of, signed_text}
@@ -18,14 +17,18 @@ newline = 10 ∷ []
 abbrev pub value_text : ℤ → List ℕ
 value_text v = spaced (signed_text v)
 
+-- "the value and place", which has a number
+abbrev pub least_text : {Place : Type 0} → (number : Place → ℕ) → RangeMinimum Place → List ℕ
+least_text number m = value_text m.value ++ spaced (decimal_of (number m.place))
+
 -- "after an accepted Query the value and place"
 abbrev pub minimum_text : Minimum → List ℕ
 minimum_text m = value_text m.value ++ spaced (decimal_of m.place.0)
 
 -- what is shown, if anything, by the text that it has
 abbrev pub shown_text : {Shown : Type 0} → (text : Shown → List ℕ) → Option Shown → List ℕ
-shown_text text none = []
-shown_text text (some shown) = text shown
+shown_text text None = []
+shown_text text (Some shown) = text shown
 
 -- "the reply", and what it shows
 abbrev pub told_text : {Shown : Type 0} → (text : Shown → List ℕ) → ToldOf Shown → List ℕ
@@ -34,12 +37,7 @@ told_text text t = decimal_of t.number ++ shown_text text t.shown
 abbrev pub reply_text : Told → List ℕ
 reply_text t = told_text minimum_text t
 
--- in the program: what there is, if anything, by the text that it has
-abbrev pub optional_text : {Shown : Type 0} → (text : Shown → List ℕ) → Prelude.Option Shown → List ℕ
-optional_text text None = []
-optional_text text (Some shown) = text shown
-
--- and the reply of a call, with what an acceptance shows
+-- the reply of a call, with what an acceptance shows
 abbrev pub replied_text : {Shown : Type 0} → (text : Shown → List ℕ) → Result Shown Refusal → List ℕ
 replied_text text (Ok shown) = decimal_of 0 ++ text shown
 replied_text text (Err why) = decimal_of (number_of why)

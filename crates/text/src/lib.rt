@@ -5,10 +5,10 @@
 ghost use Rattle.std.specs.Prelude.{◌≡◌, List, [], ◌++◌, ℕ, ◌+◌, ◌≤◌, length};
 ghost use Rattle.text.specs.Writing.{decimal_of, signed_text};
 ghost use Rattle.text.specs.Pages.{HasRoom, Puts};
-ghost use Rattle.text.specs.Parts.{value_text, minimum_text, optional_text, replied_text};
+ghost use Rattle.text.specs.Parts.{value_text, least_text, shown_text, replied_text};
 ghost use Rattle.text.specs.Stops.{stop_lines};
 
-use history::{Minimum, Refusal};
+use history::{Position, RangeMinimum, Refusal};
 
 // What a reply may show.
 pub trait Shown: Copy {
@@ -32,23 +32,45 @@ impl Shown for () {
     fn put_on(self, _page: &mut Page<'_>) {}
 }
 
-// A minimum: its value and its place, each behind a space.
-impl Shown for Minimum {
-    ghost text = { minimum_text };
+// A place that has a number, of so many digits at most.
+pub trait Place: Copy {
+    ghost number: { Self → ℕ };
 
-    ghost most = { 23 };
+    ghost digits: { ℕ };
+
+    fn number(self) -> u64
+        ensures number { result ≡ number self }
+        ensures few { length (decimal_of (number self)) ≤ digits };
+}
+
+// A position of a stream.
+impl Place for Position {
+    ghost number = { λ place. place.0 };
+
+    ghost digits = { 10 };
 
     #[tactic(auto, using(crate::proofs::Decimals::place_few))]
+    fn number(self) -> u64 {
+        u64::from(self.0)
+    }
+}
+
+// The least value of a range and its place, each behind a space.
+impl<P: Place> Shown for RangeMinimum<P> {
+    ghost text = { λ least. least_text P.number least };
+
+    ghost most = { 13 + P.digits };
+
     fn put_on(self, page: &mut Page<'_>) {
         page.put_value(self.value);
         let place = self.place;
-        page.put_numbered(b" ", u64::from(place.0));
+        page.put_numbered(b" ", place.number());
     }
 }
 
 // What is there, if anything.
 impl<T: Shown> Shown for Option<T> {
-    ghost text = { λ shown. optional_text T.text shown };
+    ghost text = { λ shown. shown_text T.text shown };
 
     ghost most = { T.most };
 
@@ -139,7 +161,7 @@ impl<'a> Page<'a> {
                 self.put_number(0);
                 shown.put_on(self);
             }
-            Err(why) => self.put_number(u64::from(history::number(why))),
+            Err(why) => self.put_number(u64::from(u8::from(why))),
         }
     }
 

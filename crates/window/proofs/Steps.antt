@@ -12,7 +12,7 @@ use lib.IntN.{ℤ}
 use lib.ListN.{length, length-append}
 use borrow.Author.Tests.{le-leb, lt-leb, lt-ltb, le-ltb, ne_eqb}
 use Rattle.laws.proofs.Tests.{lt_or_ge}
-use Rattle.history.specs.declared.Minimum.{Minimum}
+use Rattle.history.specs.Minimum.{Minimum}
 use Rattle.history.specs.Minima.{Least, present_at}
 use Rattle.history.specs.Replies.{numbered, accepted, value_refusal}
 use Rattle.history.proofs.Steps.{lent_none}

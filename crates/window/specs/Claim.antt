@@ -4,7 +4,7 @@
 use Rattle.std.specs.Prelude.{◌≡◌, true, List, [], ◌∷◌, ◌++◌, ℕ, ◌+◌, ◌<◌, ◌≤◌, ℤ, length}
 use Rattle.std.proofs.Math.Option.{some}
 use Rattle.history.specs.declared.Position.{Position}
-use Rattle.history.specs.declared.Minimum.{Minimum}
+use Rattle.history.specs.Minimum.{Minimum}
 use Rattle.history.specs.declared.Command.TheVariants.{Query}
 use Rattle.history.specs.Minima.{Least, present_at}
 use Rattle.history.specs.Replies.{showing, told}
