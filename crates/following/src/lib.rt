@@ -4,10 +4,10 @@
 ghost use Rattle.std.specs.Prelude.{◌≡◌, [], ◌∷◌, ◌+◌, ◌<◌, ◌≤◌};
 ghost use Rattle.history.specs.Replies.{told, acceptances};
 
-use history::Reply;
+use history::Answer;
 
 // The session after the last command, how many were read, and how many of them were accepted.
-#[derive(Clone, Copy)]
+#[derive(Drop)]
 pub struct Progress<S> {
     pub session: S,
     pub read: usize,
@@ -29,17 +29,18 @@ impl<S: Copy> Progress<S> {
         }
     }
 
-    // One command more, with its reply and the session after it.
-    pub fn after(self, session: S, reply: Reply) -> Progress<S>
+    // One command more, with what it was answered.
+    #[tactic(auto, using(crate::proofs::Counts::once))]
+    pub fn after(self, answer: Answer<S>) -> Progress<S>
         requires { self.read < 18446744073709551615 }
-        ensures session { result.session ≡ session }
+        ensures session { result.session ≡ answer.session }
         ensures read { result.read ≡ self.read + 1 }
-        ensures accepted { result.accepted ≡ self.accepted + acceptances (told reply ∷ []) }
+        ensures accepted { result.accepted ≡ self.accepted + acceptances (told answer.reply ∷ []) }
     {
         Progress {
-            session,
+            session: answer.session,
             read: self.read + 1,
-            accepted: self.accepted + history::acceptances_of(reply),
+            accepted: self.accepted + history::acceptances_of(answer.reply),
         }
     }
 }
