@@ -15,7 +15,8 @@ use Rattle.history.specs.declared.Position.{Position}
 use Rattle.history.specs.Minimum.{Minimum}
 use Rattle.history.specs.Minima.{stands_at, next, present_at, minimum}
 use Rattle.deque.specs.Suffixes.{start_of, SuffixMinima}
-use Rattle.deque.specs.Words.{front, count, place_in, unpacked, entry_word, entry_at, Twice, Room, Holds}
+use Rattle.packing.specs.Packing.{place_in, unpacked}
+use Rattle.deque.specs.Words.{front, count, entry_word, entry_at, Twice, Room, Holds}
 use Rattle.deque.specs.Calls.{Cleared, Boundary, SlotAfter, Alone, Repeated, Put, Comes, Given, Arrived}
 use Rattle.deque.proofs.Suffixes.{none_yet, from, few, leaves, stays, comes}
 

@@ -1,4 +1,3 @@
-pub mod Packing
 pub mod Suffixes
 pub mod Searching
 pub mod Arriving

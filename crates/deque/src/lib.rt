@@ -5,7 +5,8 @@
 
 ghost use Rattle.std.specs.Prelude.{◌≡◌, ◌+◌, ◌*◌, ◌<◌, ◌≤◌, leb, length};
 ghost use Rattle.history.specs.Minima.{takes_over};
-ghost use Rattle.deque.specs.Words.{packed, value_in, place_in, unpacked, entry_word};
+ghost use Rattle.packing.specs.Packing.{value_in, place_in};
+ghost use Rattle.deque.specs.Words.{entry_word};
 ghost use Rattle.deque.specs.Calls.{Cleared, Boundary, SlotAfter, Alone, Repeated, Put, Given, Arrived};
 
 use history::{Minimum, Position};
@@ -15,24 +16,6 @@ pub const MOST_SLOTS: usize = 4096;
 
 // How many entries are tried one by one, before the search goes on by halves.
 const NEAR: usize = 8;
-
-// An entry as a word: the value above the position.
-fn pack(m: Minimum) -> u64
-    ensures { result ≡ packed m }
-{
-    let place = m.place;
-    signed::to_word(m.value) * 4294967296 + place.0 as u64
-}
-
-// The entry of a word: every word has one.
-fn unpack(w: u64) -> Minimum
-    ensures { result ≡ unpacked w }
-{
-    Minimum {
-        value: signed::from_word(w / 4294967296),
-        place: Position((w % 4294967296) as u32),
-    }
-}
 
 // Whether a later value takes over from an entry: the choice among equal values, and the one comparison of values. Their words are ordered as they are.
 fn takes_over(later: i32, entry: u64) -> bool
@@ -179,5 +162,5 @@ pub fn arrive(area: &mut [u64], slots: usize, m: Minimum) -> Minimum
         return m;
     }
     let place = m.place;
-    unpack(give(area, slots, m.value, place, pack(m)))
+    packing::unpack(give(area, slots, m.value, place, packing::pack(m)))
 }

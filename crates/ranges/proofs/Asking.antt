@@ -22,7 +22,7 @@ use Rattle.table.specs.Calls.{row_of, Sought}
 use Rattle.table.proofs.Active.{live_among, live_position, not_among}
 use Rattle.table.proofs.Positions.{among-append}
 use Rattle.stack.specs.declared.Low.{Low}
-use Rattle.stack.specs.Packing.{packed, unpacked, Faithful}
+use Rattle.packing.specs.Packing.{packed, unpacked, Faithful}
 use Rattle.stack.specs.Calls.{word_shown, Looked}
 use Rattle.ranges.specs.Holding.{upcoming, origin, LaneHolds, Roles, roles_of, marks_in, Holds}
 use Rattle.ranges.specs.Private.{Chosen, LowerOf, UpToNow}

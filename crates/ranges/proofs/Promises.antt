@@ -30,7 +30,7 @@ use Rattle.table.specs.Marks.{Live, released}
 use Rattle.table.specs.Calls.{row_of, Sought, Released}
 use Rattle.table.proofs.Closing.{release_within}
 use Rattle.stack.specs.declared.Low.{Low}
-use Rattle.stack.specs.Packing.{packed, unpacked, Faithful}
+use Rattle.packing.specs.Packing.{packed, unpacked, Faithful}
 use Rattle.stack.specs.Calls.{Lowered, word_shown, Looked}
 use Rattle.stack.proofs.Lowering.{lowered_within}
 use Rattle.stack.proofs.Rooms.{room_or_not}

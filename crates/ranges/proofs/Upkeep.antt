@@ -23,7 +23,7 @@ use Rattle.layout.proofs.Written.{each_lane, each_kind, lane_then}
 use Rattle.layout.proofs.Puts.{reading, puts_lanes}
 use Rattle.table.specs.Marks.{After}
 use Rattle.table.proofs.Kept.{active_same, position_same}
-use Rattle.stack.specs.Packing.{packed, Faithful}
+use Rattle.packing.specs.Packing.{packed, Faithful}
 use Rattle.stack.specs.Calls.{Lowered}
 use Rattle.stack.proofs.Lowering.{lowered_within}
 use Rattle.ranges.specs.Holding.{Roles, roles_of, marks_in, Laid, Started, Unfinished, Soon, Holds}

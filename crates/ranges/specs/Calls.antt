@@ -13,7 +13,7 @@ use Rattle.layout.specs.declared.Place.{Place}
 use Rattle.layout.specs.declared.Role.{Role}
 use Rattle.layout.specs.Words.{Under, extent_of, least_word}
 use Rattle.table.specs.Marks.{Live}
-use Rattle.stack.specs.Packing.{unpacked}
+use Rattle.packing.specs.Packing.{unpacked}
 use Rattle.ranges.specs.declared.Lowest.{Lowest}
 use Rattle.ranges.specs.declared.Lowest.TheVariants.{At, Nothing}
 use Rattle.ranges.specs.Holding.{Holds}

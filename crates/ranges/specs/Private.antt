@@ -13,7 +13,7 @@ use Rattle.layout.specs.Frames.{Kind, Within}
 use Rattle.table.specs.declared.Found.{Found}
 use Rattle.table.specs.Marks.{After}
 use Rattle.table.specs.Calls.{row_of, Sought, Released}
-use Rattle.stack.specs.Packing.{packed, Faithful}
+use Rattle.packing.specs.Packing.{packed, Faithful}
 use Rattle.stack.specs.Calls.{Advanced}
 use Rattle.ranges.specs.Holding.{LaneHolds, marks_in}
 

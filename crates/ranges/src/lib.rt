@@ -46,7 +46,7 @@ pub fn value(area: &mut [u64], m: Minimum)
     let active = layout::read(area, Role::Active);
     let lane = active.lane;
     let height = active.height;
-    let word = stack::pack(m);
+    let word = packing::pack(m);
     let top = stack::lower(area, lane, height, word);
     area[3] = top.0 as u64;
 }
@@ -130,7 +130,7 @@ pub fn look_up(area: &[u64], p: Position) -> Lowest
     let Low::At(word) = low else {
         return Lowest::Nothing;
     };
-    Lowest::At(stack::unpack(up_to_now(area, role, word)))
+    Lowest::At(packing::unpack(up_to_now(area, role, word)))
 }
 
 // The active mark at a position is closed; where there is none nothing is done. Whether there was one. "The Close command is applied to all the structures, including the
@@ -382,7 +382,7 @@ pub fn mark(area: &mut [u64], active: usize, p: Position, m: Minimum)
     }
     turn(area, active, p);
     let e = layout::read(area, Role::Active);
-    let word = stack::pack(m);
+    let word = packing::pack(m);
     let grown = append(area, e, p, word);
     let rows = grown.rows;
     let top = grown.height;

@@ -11,7 +11,7 @@ use Rattle.history.specs.Replies.{Told, acceptances}
 use Rattle.runs.specs.Runs.{Made, EachCall, AllAgree}
 use Rattle.runs.specs.Lists.{replies_of, told_to, AllLent}
 use Rattle.runs.proofs.Lists.{each_call, told_all, in_turn_made}
-use Rattle.window.specs.Answered.{Answer}
+use Rattle.window.specs.Answers.{Answer}
 use Rattle.window.specs.declared.Window.{Window}
 use Rattle.window.specs.Windows.{Paper, opening, model}
 use Rattle.window.specs.Claim.{Answered, OpeningAgrees, Meets}

@@ -12,7 +12,7 @@ use Rattle.history.specs.Histories as Histories
 use Rattle.history.specs.Histories.{History, among}
 use Rattle.runs.specs.Runs.{AsLent, is_own, Call, Made, Agrees, EachCall}
 use Rattle.window.specs.declared.Window.{Window}
-use Rattle.window.specs.declared.Answer.{Answer}
+use Rattle.window.specs.Answers.{Answer}
 use Rattle.window.specs.Windows.{Paper, session_of, opening, oldest, refusal_of, step, model}
 use Rattle.window.specs.Promises.{OpeningSays, ValueSays, AnyOpening, AnyValue}
 

@@ -2,7 +2,7 @@
 use Rattle.history.specs.declared.Refusal.{Refusal}
 use Rattle.history.specs.declared.Reply.TheVariants.{Refused}
 use Rattle.window.specs.declared.Window.{Window}
-use Rattle.window.specs.declared.Answer.{Answer}
+use Rattle.window.specs.Answers.{Answer}
 
 -- the session comes back equal
 abbrev pub refused_with : Window → Refusal → Answer
