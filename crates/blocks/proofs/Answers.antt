@@ -10,7 +10,7 @@ use Rattle.std.specs.Prelude.{Ok, Err}
 use Rattle.history.specs.declared.Refusal.{Refusal}
 use Rattle.history.specs.Replies.{numbered, number_of}
 use Rattle.history.proofs.Steps.{some_number}
-use Rattle.blocks.specs.declared.Found.{Found}
+use Rattle.blocks.specs.Found.{Found}
 use Rattle.blocks.specs.Takes.{Told, range_minimum, search_refusal}
 use Rattle.blocks.specs.Calls.{Searches}
 use Rattle.blocks.specs.Private.{Covers}

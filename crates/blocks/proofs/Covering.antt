@@ -13,7 +13,7 @@ use borrow.Author.Tests.{eqb-true, ne_eqb}
 use Rattle.history.specs.Minima.{takes_over}
 use Rattle.history.proofs.Lowest.{minimum_least}
 use Rattle.blocks.specs.declared.Offset.{Offset}
-use Rattle.blocks.specs.declared.Found.{Found}
+use Rattle.blocks.specs.Found.{Found}
 use Rattle.blocks.specs.Takes.{minimum_from, block_of, block_count, blocks_before, block_minima}
 use Rattle.blocks.specs.Private.{PlaceOf, shifted, lower_of, Covers, OfBlocks}
 use Rattle.blocks.proofs.Founds.{joined, handed_on}

@@ -9,7 +9,7 @@ use borrow.Author.Tests.{ne_eqb}
 use Rattle.history.specs.Minima.{lowest}
 use Rattle.std.specs.Prelude.{Result}
 use Rattle.history.specs.declared.Refusal.{Refusal}
-use Rattle.blocks.specs.declared.Found.{Found}
+use Rattle.blocks.specs.Found.{Found}
 use Rattle.blocks.specs.Takes.{range_minimum, block_count, block_minima_from, block_minima, search_refusal, told, answering}
 use Rattle.blocks.specs.Calls.{Searches}
 use Rattle.blocks.specs.Promises.{Fitting}

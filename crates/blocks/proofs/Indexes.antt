@@ -13,7 +13,7 @@ use Rattle.std.specs.Int.Signed.{le_z}
 use Rattle.laws.proofs.Order.{le_z_antisym, lt_z_le_z}
 use Rattle.history.specs.declared.Position.{Position}
 use Rattle.history.proofs.Lowest.{minimum_new, minimum_least}
-use Rattle.blocks.specs.declared.Found.{Found}
+use Rattle.blocks.specs.Found.{Found}
 use Rattle.blocks.specs.Takes.{from_zero, minimum_from, block_of, block_count, block_minima_from, block_minima}
 use Rattle.blocks.specs.Private.{shifted, lower_of}
 use Rattle.blocks.proofs.Founds.{joined, handed_on}

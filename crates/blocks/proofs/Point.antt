@@ -13,7 +13,7 @@ use Rattle.history.specs.Minima.{minimum}
 use Rattle.history.proofs.Lowest.{minimum_least}
 use Rattle.std.specs.Prelude.{Result}
 use Rattle.history.specs.declared.Refusal.{Refusal}
-use Rattle.blocks.specs.declared.Found.{Found}
+use Rattle.blocks.specs.Found.{Found}
 use Rattle.blocks.specs.Takes.{block_of, block_count, range_refusal, search_refusal}
 use Rattle.blocks.specs.Calls.{Builds, Searches, Stretches}
 use Rattle.blocks.specs.Promises.{BuildSays, SearchSays, StretchSays, Fitting, Outside, EveryIndex, EveryBuild, EverySearch, EveryStretch, Point3}

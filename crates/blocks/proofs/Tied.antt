@@ -7,7 +7,7 @@ use contract.Lifetimes.{Lfts}
 use denote.Ref.{MutBor, at_last}
 use Rattle.std.specs.Prelude.{Result}
 use Rattle.history.specs.declared.Refusal.{Refusal}
-use Rattle.blocks.specs.declared.Found.{Found}
+use Rattle.blocks.specs.Found.{Found}
 use Rattle.blocks.specs.Calls.{Builds, Searches, Stretches}
 use Rattle.blocks.specs.Promises.{BuildSays, SearchSays, StretchSays}
 use Rattle.blocks.proofs.build.Reads as build-reads

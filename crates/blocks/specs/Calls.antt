@@ -3,7 +3,7 @@
 use Rattle.std.specs.Prelude.{◌≡◌, cond, List, ℕ, ◌+◌, ◌*◌, ◌≤◌, eqb, ℤ, length, Result}
 use Rattle.history.specs.declared.Refusal.{Refusal}
 use Rattle.history.specs.Replies.{numbered}
-use Rattle.blocks.specs.declared.Found.{Found}
+use Rattle.blocks.specs.Found.{Found}
 use Rattle.blocks.specs.Takes.{range_minimum, block_minima, range_refusal, build_refusal, search_refusal, built, stretch_of, told, told_building, answering}
 
 -- "Building writes every index entry and nothing else": the index is then the take's, whatever it held. "15 .. also when building, which then writes nothing"

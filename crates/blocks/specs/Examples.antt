@@ -3,7 +3,7 @@
 use Rattle.std.specs.Prelude.{◌≡◌, List, [], ◌∷◌, ◌++◌, ℕ, ℤ, pos, negsuc, length, replicate, Result}
 use Rattle.history.specs.declared.Refusal.{Refusal}
 use Rattle.history.specs.Replies.{numbered, showing}
-use Rattle.blocks.specs.declared.Found.{Found}
+use Rattle.blocks.specs.Found.{Found}
 use Rattle.blocks.specs.Takes.{Told, range_minimum, block_minima, search_refusal, stretch_of, told, told_building, answering}
 use Rattle.blocks.specs.Promises.{BuildSays, SearchSays, StretchSays, Fitting}
 

@@ -2,7 +2,7 @@
 use Rattle.std.specs.Prelude.{◌≡◌, cond, List, ℕ, ◌+◌, ◌*◌, ◌<◌, ◌≤◌, ℤ, length, take}
 use Rattle.history.specs.Minima.{takes_over}
 use Rattle.blocks.specs.declared.Offset.{Offset}
-use Rattle.blocks.specs.declared.Found.{Found}
+use Rattle.blocks.specs.Found.{Found}
 use Rattle.blocks.specs.Takes.{minimum_from, block_minima}
 
 -- `place_of`: an offset of the values; where v is the least of them, the earliest where it stands

@@ -5,7 +5,7 @@ use Rattle.history.specs.Minimum.{Minimum}
 use Rattle.history.specs.declared.Refusal.{Refusal}
 use Rattle.history.specs.Minima.{Least}
 use Rattle.history.specs.Replies.{numbered, showing}
-use Rattle.blocks.specs.declared.Found.{Found}
+use Rattle.blocks.specs.Found.{Found}
 use Rattle.blocks.specs.Takes.{from_zero, block_of, block_count, block_minima, told, told_building}
 use Rattle.blocks.specs.Calls.{lies_at}
 

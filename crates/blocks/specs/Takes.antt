@@ -5,7 +5,7 @@ use Rattle.history.specs.Minimum.{Minimum}
 use Rattle.history.specs.declared.Refusal.{Refusal}
 use Rattle.history.specs.Minima.{minimum}
 use Rattle.history.specs.Replies.{ToldOf, numbered, showing, number_of}
-use Rattle.blocks.specs.declared.Found.{Found}
+use Rattle.blocks.specs.Found.{Found}
 
 -- "numbered from 0": what stands at position k of a stream, counted from 1, stands at offset k − 1 of a take
 abbrev pub from_zero : Minimum → Found

@@ -11,18 +11,14 @@ ghost use Rattle.blocks.specs.Takes.{minimum_from, block_of, block_count, blocks
 ghost use Rattle.blocks.specs.Calls.{Builds, Searches, Stretches};
 ghost use Rattle.blocks.specs.Private.{PlaceOf, shifted, lower_of, OfBlocks, Covers};
 
-use history::Refusal;
+use history::{RangeMinimum, Refusal};
 
 // A place in a take, counted from 0.
-#[derive(Clone, Copy)]
+#[derive(Clone, Copy, PartialEq, Eq, PartialOrd, Ord)]
 pub struct Offset(pub usize);
 
 // The least value of a range, and where it stands.
-#[derive(Clone, Copy)]
-pub struct Found {
-    pub value: i32,
-    pub place: Offset,
-}
+pub type Found = RangeMinimum<Offset>;
 
 // A take and an index that has an entry for each of its blocks, whatever the entries are.
 #[derive(Clone, Copy)]

@@ -22,7 +22,7 @@ use Rattle.history.specs.Minimum.{Minimum}
 use Rattle.history.specs.Minima.{minimum}
 use Rattle.history.specs.Replies.{showing}
 use Rattle.history.proofs.Lowest.{minimum_least, least_only}
-use Rattle.blocks.specs.declared.Found.{Found}
+use Rattle.blocks.specs.Found.{Found}
 use Rattle.blocks.specs.declared.Reply.{Reply}
 use Rattle.blocks.specs.Takes.{from_zero, range_minimum, block_minima}
 use Rattle.blocks.specs.Takes as takes

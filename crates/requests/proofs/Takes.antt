@@ -18,7 +18,7 @@ use Rattle.history.specs.Minimum.{Minimum}
 use Rattle.history.specs.Minima.{lowest, Least}
 use Rattle.history.specs.Replies.{numbered, showing}
 use Rattle.history.proofs.Lowest.{least_only}
-use Rattle.blocks.specs.declared.Found.{Found}
+use Rattle.blocks.specs.Found.{Found}
 use Rattle.blocks.specs.declared.Reply.{Reply}
 use Rattle.blocks.specs.Takes.{from_zero, block_of, block_minima_from, block_minima, told}
 use Rattle.blocks.specs.Calls.{Builds, Searches, Stretches}
