@@ -9,7 +9,7 @@ use lib.Dec.{eqb}
 use lib.IntN.{ℤ}
 use lib.ListN.{length, take, drop, length-take, length-drop}
 use lib.Seq.{length-take-le, take_all}
-use borrow.Author.Tests.{eqb-true, ne_eqb}
+use borrow.Author.Tests.{eq-eqb, eqb-true, ne_eqb}
 use Rattle.history.specs.Minima.{takes_over}
 use Rattle.history.proofs.Lowest.{minimum_least}
 use Rattle.blocks.specs.declared.Offset.{Offset}
@@ -97,6 +97,9 @@ covers_both values index i a e f g l m s c d = record {
     go_to false = omega (arith, c.to)
 
 -- the blocks that end at e or before it: all where e is the take's end, and else those that are full before e; never more than there are
+pub before_end : (n e : ℕ) → e ≡ n → blocks_before n e ≡ block_count n
+before_end n e q = simp (eq-eqb e n q)
+
 pub before_inside : (n e : ℕ) → (e ≡ n → ⊥) → blocks_before n e ≡ e / 64
 before_inside n e q = simp (ne_eqb e n q)
 
