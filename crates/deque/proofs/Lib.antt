@@ -1,4 +1,2 @@
-pub mod Packing
 pub mod Suffixes
-pub mod Searching
 pub mod Arriving

@@ -11,7 +11,7 @@ use lib.Signed.{le_z}
 use lib.ListN.{length, length-append}
 use Rattle.laws.proofs.Tests.{clash, refuted}
 use Rattle.history.specs.declared.Position.{Position}
-use Rattle.history.specs.declared.Minimum.{Minimum}
+use Rattle.history.specs.Minimum.{Minimum}
 use Rattle.history.specs.Minima.{takes_over, stands_at, next, present_at, minimum}
 use Rattle.history.proofs.Choice.{monotone, lower_as}
 use Rattle.history.proofs.Lowest.{last_of_more, minimum_more, minimum_new, minimum_least, minimum_rises, minimum_later}

@@ -1,9 +1,10 @@
 -- What each function of the deque promises, of any words; and, where they hold a stream's suffix minima, that they go on doing so.
 use Rattle.std.specs.Prelude.{◌≡◌, true, false, List, [], ◌∷◌, ◌++◌, ◌⊎◌, ℕ, ◌+◌, ◌*◌, ◌-◌, ◌<◌, ◌≤◌, ℤ, length, get_or}
 use Rattle.history.specs.declared.Position.{Position}
-use Rattle.history.specs.declared.Minimum.{Minimum}
+use Rattle.history.specs.Minimum.{Minimum}
 use Rattle.history.specs.Minima.{takes_over, stands_at, next, present_at, minimum}
-use Rattle.deque.specs.Words.{unpacked, entry_at, Room, Holds}
+use Rattle.packing.specs.Packing.{unpacked}
+use Rattle.deque.specs.Words.{entry_at, Room, Holds}
 
 -- `clear`: no entries, as before a stream's first value, in words that have room
 pub record Cleared (w v : List ℕ) : Type 0 where

@@ -1,7 +1,7 @@
 -- The suffix minima of a list of values: what a monotone deque holds.
 use Rattle.std.specs.Prelude.{◌≡◌, List, ℕ, zero, suc, ◌+◌, ◌<◌, ◌≤◌, ℤ, length}
 use Rattle.history.specs.declared.Position.{Position}
-use Rattle.history.specs.declared.Minimum.{Minimum}
+use Rattle.history.specs.Minimum.{Minimum}
 use Rattle.history.specs.Minima.{next, minimum}
 
 -- where the values of entry k start: the first's at position i, and each further one's behind the place of the entry before it

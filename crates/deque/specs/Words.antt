@@ -1,9 +1,8 @@
 -- The deque in the lent words: word 0 is its header, and its entries stand behind it, an entry to a word.
 use Rattle.std.specs.Prelude.{◌≡◌, List, ℕ, ◌+◌, ◌*◌, ◌-◌, ◌/◌, ◌%◌, ◌<◌, ◌≤◌, ℤ, length, get_or}
 use Rattle.history.specs.declared.Position.{Position}
-use Rattle.history.specs.declared.Minimum.{Minimum}
-use Rattle.history.specs.Minima.{stands_at}
-use Rattle.signed.specs.Word.{word_of, value_of}
+use Rattle.history.specs.Minimum.{Minimum}
+use Rattle.packing.specs.Packing.{unpacked}
 use Rattle.deque.specs.Suffixes.{SuffixMinima}
 
 -- the header: the front's slot, and how many entries there are
@@ -12,19 +11,6 @@ front w = get_or w 0 0 / 65536
 
 abbrev pub count : List ℕ → ℕ
 count w = get_or w 0 0 % 65536
-
--- an entry as a word, and the entry of any word
-abbrev pub packed : Minimum → ℕ
-packed m = word_of m.value * 4294967296 + m.place.0
-
-abbrev pub value_in : ℕ → ℤ
-value_in e = value_of (e / 4294967296)
-
-abbrev pub place_in : ℕ → ℕ
-place_in e = e % 4294967296
-
-abbrev pub unpacked : ℕ → Minimum
-unpacked e = stands_at (value_in e) (record { 0 = place_in e })
 
 -- the word of the entry that is k behind the front, and the entry
 abbrev pub entry_word : List ℕ → (front k : ℕ) → ℕ

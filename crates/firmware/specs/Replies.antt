@@ -1,7 +1,7 @@
 -- What a reply shows, as the numbers that C gets.
 use Rattle.std.proofs.Math.Option.{Option, none, some}
 use Rattle.std.specs.Prelude.{pos}
-use Rattle.history.specs.declared.Minimum.{Minimum}
+use Rattle.history.specs.Minimum.{Minimum}
 
 -- the value and the place that are shown; where nothing is shown, zeros
 abbrev pub shown_of : Option Minimum → Minimum

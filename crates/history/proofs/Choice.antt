@@ -7,7 +7,7 @@ use lib.Signed.{le_z}
 use borrow.Author.Tests.{not-true, not-false}
 use Rattle.laws.proofs.Order.{le_z_trans, le_z_total, lt_z_le_z}
 use Rattle.laws.proofs.Tests.{clash, refuted}
-use Rattle.history.specs.declared.Minimum.{Minimum}
+use Rattle.history.specs.Minimum.{Minimum}
 use Rattle.history.specs.Minima.{takes_over, lower}
 
 -- what takes over is lower

@@ -3,7 +3,7 @@
 use mathlib.Core.Path.{◌≡◌, refl, sym, ap, ◌∙◌}
 use mathlib.Core.Bool.{Bool, true, false, cond}
 use mathlib.Core.List.{[], ◌∷◌}
-use mathlib.Core.Option.{none, some}
+use Rattle.std.specs.Prelude.{None, Some}
 use Prim.Native.Nat.{ℕ}
 use native.Mathlib.Omega.{arith}
 use native.Mathlib.Decide.{ℕ_discrete}
@@ -11,7 +11,7 @@ use lib.Dec.{eqb}
 use lib.ListN.{length, length-append}
 use borrow.Author.Tests.{eq-eqb, ne_eqb}
 use Rattle.history.specs.declared.Position.{Position}
-use Rattle.history.specs.declared.Minimum.{Minimum}
+use Rattle.history.specs.Minimum.{Minimum}
 use Rattle.history.specs.declared.Standing.{Standing}
 use Rattle.history.specs.declared.Standing.TheVariants.{Unmarked}
 use Rattle.history.specs.declared.Command.{Command}
@@ -75,14 +75,14 @@ pub active_least : (h : History) (i : Position) → Sound h → among i h.active
 active_least h i s a = let r = rising_among i s.rising a in minimum_least h.values i r.0 r.1
 
 -- what a Query is shown is the minimum of an active mark
-pub shown-minimum : (h : History) (n : ℕ) (i : Position) (m : Minimum) → (step h n (Query i)).tells.shown ≡ some m
+pub shown-minimum : (h : History) (n : ℕ) (i : Position) (m : Minimum) → (step h n (Query i)).tells.shown ≡ Some m
     → (among i h.active ≡ true) × (m ≡ minimum h.values i)
 shown-minimum h n i m e = elim (ℕ_discrete (refusal_of h n (Query i)) 0) [
   | yes q ↦
-      let x : some (minimum h.values i) ≡ some m = sym (ap (λ (x : Stepped). x.tells.shown) (step_accepted h n (Query i) q)) ∙ e in
+      let x : Some (minimum h.values i) ≡ Some m = sym (ap (λ (x : Stepped). x.tells.shown) (step_accepted h n (Query i) q)) ∙ e in
       let y : minimum h.values i ≡ m = cc in
       (taken_active (among i h.active) (refusal_none (session_of h) n (is_active h (Query i)) (Query i) q).2, sym y)
   | no q ↦
-      let x : none ≡ some m = sym (ap (λ (x : Stepped). x.tells.shown) (step-refused h n (Query i) (refusal_of h n (Query i)) refl q)) ∙ e in
+      let x : None ≡ Some m = sym (ap (λ (x : Stepped). x.tells.shown) (step-refused h n (Query i) (refusal_of h n (Query i)) refl q)) ∙ e in
       absurd (let y : ◌≡◌ {A = ℕ} 0 1 = cc in omega arith)
 ]

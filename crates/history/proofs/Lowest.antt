@@ -13,7 +13,7 @@ use lib.Seq.{drop-append-le, drop-length, get_or_at, length-take-le, get_or-take
 use Rattle.laws.proofs.Tests.{clash, refuted, neither_below}
 use Rattle.laws.proofs.Order.{le_z_refl, le_z_trans}
 use Rattle.history.specs.declared.Position.{Position}
-use Rattle.history.specs.declared.Minimum.{Minimum}
+use Rattle.history.specs.Minimum.{Minimum}
 use Rattle.history.specs.Minima.{takes_over, lower, stands_at, next, lowest, present_at, value_at, last_of, minimum, Least}
 use Rattle.history.proofs.Choice.{is_lower, no_larger, no_smaller}
 

@@ -8,7 +8,7 @@ use lib.IntN.{ℤ, pos}
 use lib.ListN.{length, get_or, drop, length-drop, get_or-append}
 use lib.Seq.{drop-append-le, drop-append-add, get_or-append-add, get_or_at}
 use Rattle.history.specs.declared.Position.{Position}
-use Rattle.history.specs.declared.Minimum.{Minimum}
+use Rattle.history.specs.Minimum.{Minimum}
 use Rattle.history.specs.Minima.{takes_over, lower, stands_at, next, lowest, present_at, value_at, minimum}
 use Rattle.history.proofs.Choice.{lower_assoc}
 

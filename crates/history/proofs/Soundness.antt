@@ -16,7 +16,7 @@ use Rattle.history.specs.declared.Standing.TheVariants.{Unmarked, Marked}
 use Rattle.history.specs.declared.Command.{Command}
 use Rattle.history.specs.declared.Command.TheVariants.{Value, Mark, Query, Close}
 use Rattle.history.specs.declared.Event.{Event}
-use Rattle.history.specs.declared.Due.TheVariants.{Nothing}
+use Rattle.std.specs.Prelude.{None}
 use Rattle.history.specs.Standings.{transition_of}
 use Rattle.history.specs.Histories.{History, present_of, session_of, limit_of, blank, opening, among, without, accept, refusal_of, step}
 use Rattle.history.specs.Sound.{Rising, done, then, Sound}
@@ -98,7 +98,7 @@ module _ (h : History) (s : Sound h) where
         fresh = λ _. wider (omega arith) (omega arith) s.rising;
       }
 
-  mark_sound : (transition_of Event.Mark h.standing).due ≡ Nothing → (length h.active ≡ h.limit → ⊥) → Sound (accept h Mark).history
+  mark_sound : (transition_of Event.Mark h.standing).due ≡ None → (length h.active ≡ h.limit → ⊥) → Sound (accept h Mark).history
   mark_sound f n =
       let m = length-append h.active (present_of h ∷ []) in
       let u = unmarked_only h.standing f in
@@ -125,7 +125,7 @@ module _ (h : History) (s : Sound h) where
   }
 
   -- a Mark to which no refusal applies: the standing has nothing against it, and fewer than K are active
-  free : (n : ℕ) → refusal_of h n Mark ≡ 0 → ((transition_of Event.Mark h.standing).due ≡ Nothing) × (length h.active ≡ h.limit → ⊥)
+  free : (n : ℕ) → refusal_of h n Mark ≡ 0 → ((transition_of Event.Mark h.standing).due ≡ None) × (length h.active ≡ h.limit → ⊥)
   free n e = mark_free (session_of h) (transition_of Event.Mark h.standing).due (refusal_none (session_of h) n false Mark e).2
 
   accept_sound : (n : ℕ) (c : Command) → refusal_of h n c ≡ 0 → Sound (accept h c).history

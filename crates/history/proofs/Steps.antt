@@ -13,8 +13,7 @@ use Rattle.history.specs.declared.Session.{Session}
 use Rattle.history.specs.declared.Command.{Command}
 use Rattle.history.specs.declared.Command.TheVariants.{Value, Mark, Query, Close}
 use Rattle.history.specs.declared.Event.{Event}
-use Rattle.history.specs.declared.Due.{Due}
-use Rattle.history.specs.declared.Due.TheVariants.{Nothing, Refused}
+use Rattle.std.specs.Prelude.{Option, Some, None}
 use Rattle.history.specs.declared.Refusal.{Refusal}
 use Rattle.history.specs.declared.Refusal.TheVariants.{AreaTooShort, UnknownKind, ArgumentCutOff, Unopened, OtherLength, LastPosition, NothingToMark, AlreadyMarked, AlreadyClosed, Full, NotActive, WidthOutOfRange, TooFewWords, RangeOutOfTake, OtherIndexLength}
 use Rattle.history.specs.Replies.{numbered, accepted, number_of, value_refusal, mark_refusal, own_refusal, lent_refusal, refusal}
@@ -60,6 +59,16 @@ module _ (opened n own : ℕ) where
       ] in
       (z, o, sym (lent_own z o) ∙ e)
 
+-- what is due by the lengths alone is due whatever else would be
+pub lent_due : (opened n own : ℕ) {k : ℕ} → (k ≡ 0 → ⊥) → lent_refusal opened n 0 ≡ k → lent_refusal opened n own ≡ k
+lent_due opened n own {k} some e = elim (ℕ_discrete opened 0) [
+  | yes z ↦ lent_unopened opened n own z ∙ sym (lent_unopened opened n 0 z) ∙ e
+  | no z ↦ elim (ℕ_discrete n opened) [
+    | yes o ↦ absurd (some (sym e ∙ lent_own opened n 0 z o))
+    | no o ↦ lent_other opened n own z o ∙ sym (lent_other opened n 0 z o) ∙ e
+  ]
+]
+
 -- 6, of a value, and none
 pub last_due : (present : Position) → present.0 ≡ 4294967295 → value_refusal present ≡ 6
 last_due present e = rw (eq-eqb present.0 4294967295 e)
@@ -82,9 +91,9 @@ module _ (s : Session) (n : ℕ) (b : Bool) (c : Command) where
   refusal_none = lent_none s.words n (own_refusal s b c)
 
 -- a Mark to which none applies: the standing has nothing against it, and another number than K is active
-pub mark_free : (s : Session) (d : Due) → mark_refusal s d ≡ 0 → (d ≡ Nothing) × (s.active ≡ s.limit → ⊥)
-mark_free s (Refused why) e = absurd (some_number why e)
-mark_free s Nothing e = (refl, eqb-false s.active s.limit (room (eqb s.active s.limit) e))
+pub mark_free : (s : Session) (d : Option Refusal) → mark_refusal s d ≡ 0 → (d ≡ None) × (s.active ≡ s.limit → ⊥)
+mark_free s (Some why) e = absurd (some_number why e)
+mark_free s None e = (refl, eqb-false s.active s.limit (room (eqb s.active s.limit) e))
   where
     room : (b : Bool) → ◌≡◌ {A = ℕ} (cond b 10 0) 0 → b ≡ false
     room true e = absurd (omega arith)
@@ -96,14 +105,14 @@ taken_active true x = refl
 taken_active false x = absurd (omega arith)
 
 -- the standing has nothing against a Mark where it is unmarked, and only there
-pub unmarked_only : (k : Standing) → (transition_of Event.Mark k).due ≡ Nothing → k ≡ Unmarked
+pub unmarked_only : (k : Standing) → (transition_of Event.Mark k).due ≡ None → k ≡ Unmarked
 unmarked_only None e = cc
 unmarked_only Unmarked e = refl
 unmarked_only Marked e = cc
 unmarked_only Closed e = cc
 
 -- and then it is not unmarked any more
-pub marked_after : (k : Standing) → (transition_of Event.Mark k).due ≡ Nothing → (transition_of Event.Mark k).after ≡ Marked
+pub marked_after : (k : Standing) → (transition_of Event.Mark k).due ≡ None → (transition_of Event.Mark k).after ≡ Marked
 marked_after k e = ap (λ (x : Standing). (transition_of Event.Mark x).after) (unmarked_only k e)
 
 -- a command that is refused with k, on the history h

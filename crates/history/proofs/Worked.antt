@@ -1,15 +1,14 @@
 -- The lists of examples and traces are right: what the model tells, and its state in the end, compute to them. What no list can show is a law of every history: the last position.
 use mathlib.Core.Path.{◌≡◌, refl, ap, ◌∙◌}
 use mathlib.Core.List.{◌∷◌, [], ◌++◌}
-use mathlib.Core.Option.{none, some}
 use Prim.Native.Nat.{ℕ}
 use lib.IntN.{ℤ}
 use lib.ListN.{length}
 use native.Mathlib.Omega.{arith}
-use Rattle.history.specs.declared.Minimum.{Minimum}
+use Rattle.history.specs.Minimum.{Minimum}
 use Rattle.history.specs.declared.Command.TheVariants.{Value}
 use Rattle.history.specs.declared.Refusal.{Refusal}
-use Rattle.history.specs.declared.Reply.TheVariants.{Accepted, Lowest, Refused}
+use Rattle.std.specs.Prelude.{Some, None, Ok, Err}
 use Rattle.history.specs.Minima.{lowest}
 use Rattle.history.specs.Replies.{numbered, number_of, told}
 use Rattle.history.specs.Histories.{History, Stepped, present_of, session_of, is_active, accept, step, model}
@@ -32,13 +31,13 @@ pub refusals_numbered : AllNumbered refusals
 refusals_numbered = refl
 
 -- WHAT EACH CASE OF A REPLY TELLS: 0 and nothing shown, 0 and "value and place", and the refusal's number with "no value or place"
-pub accepted_told : told Accepted ≡ record { number = 0; shown = none }
+pub accepted_told : told (Ok None) ≡ record { number = 0; shown = None }
 accepted_told = refl
 
-pub lowest_told : (m : Minimum) → told (Lowest m) ≡ record { number = 0; shown = some m }
+pub lowest_told : (m : Minimum) → told (Ok (Some m)) ≡ record { number = 0; shown = Some m }
 lowest_told m = refl
 
-pub refused_told : (why : Refusal) → told (Refused why) ≡ record { number = number_of why; shown = none }
+pub refused_told : (why : Refusal) → told (Err why) ≡ record { number = number_of why; shown = None }
 refused_told why = refl
 
 -- THE LAST POSITION: "Value, when the present position is 4,294,967,295", and no Value else that is lent the words opened

@@ -1,3 +1,4 @@
+pub mod Minimum
 pub mod Minima
 pub mod Standings
 pub mod StateVariable

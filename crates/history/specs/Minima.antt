@@ -2,7 +2,7 @@
 use Rattle.std.specs.Prelude.{◌≡◌, Bool, true, false, cond, List, [], ◌∷◌, ◌+◌, ◌-◌, ◌<◌, ◌≤◌, ℤ, pos, length, get_or, drop}
 use Rattle.std.specs.Int.Signed.{le_z, lt_z}
 use Rattle.history.specs.declared.Position.{Position}
-use Rattle.history.specs.declared.Minimum.{Minimum}
+use Rattle.history.specs.Minimum.{Minimum}
 
 -- "Among equal least values the place is the earliest at or after the tap" (document 02, point 5, in place of document 01's "the place is the latest"): a later value takes over from the
 -- least before it where it is lower. This is where the choice among equal values is made; `Least.earliest` states it once more, independently

@@ -1,15 +1,12 @@
 -- Document 01, "Replies in checking order": the number of each reply, what it shows, how many are acceptances, and which refusal is the first that applies. The numbers that document 02
 -- adds stand behind them; when they are due is said with what they refuse.
-use Rattle.std.specs.Prelude.{Bool, cond, List, [], ◌∷◌, ℕ, ◌+◌, eqb}
-use Rattle.std.proofs.Math.Option.{Option, none, some}
+use Rattle.std.specs.Prelude.{Bool, cond, List, [], ◌∷◌, ℕ, ◌+◌, eqb, Option, None, Some, Result, Ok, Err}
 use Rattle.history.specs.declared.Position.{Position}
-use Rattle.history.specs.declared.Minimum.{Minimum}
+use Rattle.history.specs.Minimum.{Minimum}
 use Rattle.history.specs.declared.Session.{Session}
 use Rattle.history.specs.declared.Command.{Command}
 use Rattle.history.specs.declared.Refusal.{Refusal}
-use Rattle.history.specs.declared.Reply.{Reply}
 use Rattle.history.specs.declared.Event.{Event}
-use Rattle.history.specs.declared.Due.{Due}
 use Rattle.history.specs.Standings.{transition_of}
 
 -- what a caller is told: the papers' number, and what is shown besides
@@ -23,7 +20,7 @@ Told = ToldOf Minimum
 
 -- "no value or place is shown"
 abbrev pub numbered : {Shown : Type 0} → ℕ → ToldOf Shown
-numbered n = record { number = n; shown = none }
+numbered n = record { number = n; shown = None }
 
 -- "Reply 0 is acceptance"
 abbrev pub accepted : Told
@@ -31,7 +28,7 @@ accepted = numbered 0
 
 -- "for Query it carries value and place"; and document 02, point 2: "Reply after each value: least value and place."
 abbrev pub showing : {Shown : Type 0} → Shown → ToldOf Shown
-showing m = record { number = 0; shown = some m }
+showing m = record { number = 0; shown = Some m }
 
 -- the numbers of the list
 abbrev pub number_of : Refusal → ℕ
@@ -53,11 +50,20 @@ number_of Refusal.TooFewWords = 13
 number_of Refusal.RangeOutOfTake = 14
 number_of Refusal.OtherIndexLength = 15
 
+-- a reply's number: "Reply 0 is acceptance", and a refusal's own
+abbrev pub number_told : {A : Type 0} → Result A Refusal → ℕ
+number_told (Ok shown) = 0
+number_told (Err why) = number_of why
+
+-- what a reply to a command is
+abbrev pub Reply : Type 0
+Reply = Result (Option Minimum) Refusal
+
 -- what each case of a reply tells
 abbrev pub told : Reply → Told
-told Reply.Accepted = accepted
-told (Reply.Lowest m) = showing m
-told (Reply.Refused why) = numbered (number_of why)
+told (Ok None) = accepted
+told (Ok (Some m)) = showing m
+told (Err why) = numbered (number_of why)
 
 -- "commands accepted" (document 01, "Played examples"): how many of those that were told so
 abbrev pub acceptances : List Told → ℕ
@@ -73,9 +79,9 @@ abbrev pub value_refusal : Position → ℕ
 value_refusal present = cond (eqb present.0 highest.0) 6 0
 
 -- 7 to 10, of a Mark: what is due by the standing, and then "when exactly K taps are active"
-abbrev pub mark_refusal : Session → Due → ℕ
-mark_refusal s (Due.Refused why) = number_of why
-mark_refusal s Due.Nothing = cond (eqb s.active s.limit) 10 0
+abbrev pub mark_refusal : Session → Option Refusal → ℕ
+mark_refusal s (Some why) = number_of why
+mark_refusal s None = cond (eqb s.active s.limit) 10 0
 
 -- 6 to 11, on an area of the opened length; 0: none applies. `is_active`: whether the command's position is an active mark
 abbrev pub own_refusal : Session → Bool → Command → ℕ

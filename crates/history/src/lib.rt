@@ -2,19 +2,23 @@
 // What they mean is said in specs/, from the papers alone; nothing here knows how the engine keeps its marks.
 #![tactic(auto)]
 
-ghost use Rattle.std.specs.Prelude.{◌≡◌, [], ◌∷◌};
+ghost use Rattle.std.specs.Prelude.{◌≡◌, [], ◌∷◌, IfOk};
 ghost use Rattle.history.specs.declared.Command.TheVariants.{Close};
-ghost use Rattle.history.specs.Replies.{number_of, told, acceptances};
+ghost use Rattle.history.specs.Replies.{number_of, number_told, told, acceptances, value_refusal, lent_refusal};
+ghost use Rattle.history.specs.Minima.{next as next_of};
 ghost use Rattle.history.specs.Standings as Standings;
 ghost use Rattle.history.specs.Standings.{transition_of, event_of};
 ghost use Rattle.history.specs.StateVariable.{by_section_2};
 
 // A place in the stream of accepted Values, from 1; 0 stands before the first.
-#[derive(Clone, Copy)]
+#[derive(Clone, Copy, PartialEq, Eq, PartialOrd, Ord)]
 pub struct Position(pub u32);
 
+// "The highest is 4,294,967,295."
+const HIGHEST: Position = Position(u32::MAX);
+
 // The present position's standing.
-#[derive(Clone, Copy)]
+#[derive(Clone, Copy, PartialEq, Eq)]
 pub enum Standing {
     None,
     Unmarked,
@@ -22,14 +26,17 @@ pub enum Standing {
     Closed,
 }
 
-// A range minimum and the position where it stands: document 01's "dip".
-#[derive(Clone, Copy)]
-pub struct Minimum {
+// The least value of a range, and the place where it stands: a position of a stream or, in `blocks`, an offset of a stored take.
+#[derive(Clone, Copy, PartialEq, Eq)]
+pub struct RangeMinimum<P> {
     pub value: i32,
-    pub place: Position,
+    pub place: P,
 }
 
-#[derive(Clone, Copy)]
+// A range minimum and the position where it stands: document 01's "dip".
+pub type Minimum = RangeMinimum<Position>;
+
+#[derive(Clone, Copy, PartialEq, Eq)]
 pub enum Command {
     Value(i32),
     Mark,
@@ -38,7 +45,7 @@ pub enum Command {
 }
 
 // Document 01, "Session and area": N, K, the present position, the last value, the number of active marks, the standing.
-#[derive(Clone, Copy)]
+#[derive(Clone, Copy, PartialEq, Eq)]
 pub struct Session {
     pub words: usize,
     pub limit: usize,
@@ -48,8 +55,8 @@ pub struct Session {
     pub standing: Standing,
 }
 
-// Why a command, an opening or a reading is refused: document 01's list, then document 02's. The number of each is `number`.
-#[derive(Clone, Copy)]
+// Why a command, an opening or a reading is refused: document 01's list, then document 02's, in whose order `u8::from` numbers them.
+#[derive(Clone, Copy, PartialEq, Eq)]
 pub enum Refusal {
     AreaTooShort,
     UnknownKind,
@@ -68,22 +75,18 @@ pub enum Refusal {
     OtherIndexLength,
 }
 
-#[derive(Clone, Copy)]
-pub enum Reply {
-    Accepted,
-    Lowest(Minimum),
-    Refused(Refusal),
-}
+// The reply to a command: an acceptance, with what it shows, if anything, or a refusal.
+pub type Reply = Result<Option<Minimum>, Refusal>;
 
-// A reply, with the session after it.
+// A reply, with the session after it: the engine's, or a window's.
 #[derive(Clone, Copy)]
-pub struct Answer {
+pub struct Answer<S> {
     pub reply: Reply,
-    pub session: Session,
+    pub session: S,
 }
 
 // What a command is to the present position's standing: a "step" of document 02, point 4.
-#[derive(Clone, Copy)]
+#[derive(Clone, Copy, PartialEq, Eq)]
 pub enum Event {
     Value,
     Mark,
@@ -91,51 +94,45 @@ pub enum Event {
     Other,
 }
 
-// What is due, to an event by the standing or to a search of a stored take by its lengths: a refusal or nothing.
-#[derive(Clone, Copy)]
-pub enum Due {
-    Nothing,
-    Refused(Refusal),
-}
-
-// What is due to an event, and the standing after its acceptance. Where a refusal is due the standing stays.
-#[derive(Clone, Copy)]
+// The refusal that is due to an event, if one is, and the standing after its acceptance. Where a refusal is due the standing stays.
+#[derive(Clone, Copy, PartialEq, Eq)]
 pub struct Transition {
-    pub due: Due,
+    pub due: Option<Refusal>,
     pub after: Standing,
 }
 
 // A refusal's number in document 01's list or, of a window's opening and of a stored take, document 02's.
-pub fn number(refusal: Refusal) -> u8
-    ensures { result ≡ number_of refusal }
-{
-    match refusal {
-        Refusal::AreaTooShort => 1,
-        Refusal::UnknownKind => 2,
-        Refusal::ArgumentCutOff => 3,
-        Refusal::Unopened => 4,
-        Refusal::OtherLength => 5,
-        Refusal::LastPosition => 6,
-        Refusal::NothingToMark => 7,
-        Refusal::AlreadyMarked => 8,
-        Refusal::AlreadyClosed => 9,
-        Refusal::Full => 10,
-        Refusal::NotActive => 11,
-        Refusal::WidthOutOfRange => 12,
-        Refusal::TooFewWords => 13,
-        Refusal::RangeOutOfTake => 14,
-        Refusal::OtherIndexLength => 15,
+impl From<Refusal> for u8 {
+    ghost from_gives = { λ refusal number. number ≡ number_of refusal };
+
+    fn from(refusal: Refusal) -> u8 {
+        match refusal {
+            Refusal::AreaTooShort => 1,
+            Refusal::UnknownKind => 2,
+            Refusal::ArgumentCutOff => 3,
+            Refusal::Unopened => 4,
+            Refusal::OtherLength => 5,
+            Refusal::LastPosition => 6,
+            Refusal::NothingToMark => 7,
+            Refusal::AlreadyMarked => 8,
+            Refusal::AlreadyClosed => 9,
+            Refusal::Full => 10,
+            Refusal::NotActive => 11,
+            Refusal::WidthOutOfRange => 12,
+            Refusal::TooFewWords => 13,
+            Refusal::RangeOutOfTake => 14,
+            Refusal::OtherIndexLength => 15,
+        }
     }
 }
 
-// The papers' number of a reply: 0 of an acceptance.
-pub fn reply_number(reply: Reply) -> u8
-    ensures { result ≡ (told reply).number }
+// The papers' number of a reply, whatever it shows: 0 of an acceptance.
+pub fn reply_number<T: Drop>(reply: Result<T, Refusal>) -> u8
+    ensures { result ≡ number_told reply }
 {
     match reply {
-        Reply::Accepted => 0,
-        Reply::Lowest(_) => 0,
-        Reply::Refused(refusal) => number(refusal),
+        Ok(_) => 0,
+        Err(refusal) => u8::from(refusal),
     }
 }
 
@@ -143,23 +140,46 @@ pub fn reply_number(reply: Reply) -> u8
 pub fn acceptances_of(reply: Reply) -> usize
     ensures { result ≡ acceptances (told reply ∷ []) }
 {
-    if reply_number(reply) == 0 { 1 } else { 0 }
+    usize::from(reply.is_ok())
+}
+
+// What every call with a session asks first, where N words were opened and n are lent: 4 without an opening, then 5 for another length.
+pub fn lent(opened: usize, n: usize) -> Result<(), Refusal>
+    ensures { number_told result ≡ lent_refusal opened n 0 }
+{
+    if opened == 0 {
+        return Err(Refusal::Unopened);
+    }
+    if n != opened {
+        return Err(Refusal::OtherLength);
+    }
+    Ok(())
+}
+
+impl Position {
+    // The position of the next value, or 6 where this is the highest.
+    pub fn next(self) -> Result<Position, Refusal>
+        ensures refused { number_told result ≡ value_refusal self }
+        ensures next { IfOk result (λ next. next ≡ next_of self) }
+    {
+        if self == HIGHEST {
+            return Err(Refusal::LastPosition);
+        }
+        Ok(Position(self.0 + 1))
+    }
 }
 
 fn allowing(after: Standing) -> Transition
     ensures { result ≡ Standings.allowing after }
 {
-    Transition {
-        due: Due::Nothing,
-        after,
-    }
+    Transition { due: None, after }
 }
 
 fn refusing(why: Refusal, standing: Standing) -> Transition
     ensures { result ≡ Standings.refusing why standing }
 {
     Transition {
-        due: Due::Refused(why),
+        due: Some(why),
         after: standing,
     }
 }
@@ -212,7 +232,7 @@ pub fn transition_of(event: Event, standing: Standing) -> Transition
 pub fn close_event(present: Position, i: Position) -> Event
     ensures { result ≡ event_of present (Close i) }
 {
-    if i.0 == present.0 {
+    if i == present {
         return Event::CloseOfPresent;
     }
     Event::Other

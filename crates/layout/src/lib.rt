@@ -5,8 +5,8 @@
 // the younger lane), and the next row that is carried into the next lane, with its run (5 and 6: of the younger and the older one).
 #![tactic(auto)]
 
-ghost use Rattle.std.specs.Prelude.{◌≡◌, ◌≤◌};
-ghost use Rattle.layout.specs.Words.{header_of};
+ghost use Rattle.std.specs.Prelude.{◌≡◌, ◌+◌, ◌*◌, ◌<◌, ◌≤◌};
+ghost use Rattle.layout.specs.Words.{header_of, base_of};
 ghost use Rattle.layout.specs.Calls.{Read, Roomy};
 
 // The most marks that an area is opened for, whatever its length.
@@ -19,19 +19,19 @@ pub const FIRST_ROWS: usize = 15;
 pub const MOST_ROWS: usize = 8207;
 
 // A reduced position: source document 000's number of a mark among those it keeps, here its row in a lane. A number of rows is the row after the last.
-#[derive(Clone, Copy)]
+#[derive(Clone, Copy, PartialEq, Eq, PartialOrd, Ord)]
 pub struct Held(pub usize);
 
 // A place of a stack, from 0 at its bottom. A stack's height is the place after its top.
-#[derive(Clone, Copy)]
+#[derive(Clone, Copy, PartialEq, Eq, PartialOrd, Ord)]
 pub struct Place(pub usize);
 
-// One of the four lanes: those whose numbers leave the same remainder by 4 are the same.
+// One of the four lanes: those whose numbers leave the same remainder by 4 are the same. So it derives no comparison, which would tell them apart.
 #[derive(Clone, Copy)]
 pub struct Lane(pub usize);
 
 // What a lane is for (source document 000, Lemma 7): the active one gets the marks and values; the two older ones, which stand still, are merged into the next one.
-#[derive(Clone, Copy)]
+#[derive(Clone, Copy, PartialEq, Eq)]
 pub enum Role {
     Active,
     Younger,
@@ -46,6 +46,57 @@ pub struct Extent {
     pub rows: Held,
     pub capacity: Held,
     pub height: Place,
+}
+
+// Where the words of a lane's rows stand.
+impl Lane {
+    // Word f of a row, place or bucket.
+    fn word(self, row: usize, f: usize) -> usize
+        requires { (row ≤ 8207) × (f < 8) }
+        ensures { result ≡ base_of self + 32 * row + f }
+    {
+        32 + 8 * (self.0 % 4) + 32 * row + f
+    }
+
+    // A row's mark.
+    pub fn mark(self, held: Held) -> usize
+        requires { held.0 ≤ 8207 }
+        ensures { result ≡ base_of self + 32 * held.0 + 1 }
+    {
+        self.word(held.0, 1)
+    }
+
+    // The next older row of its bucket.
+    pub fn link(self, held: Held) -> usize
+        requires { held.0 ≤ 8207 }
+        ensures { result ≡ base_of self + 32 * held.0 + 2 }
+    {
+        self.word(held.0, 2)
+    }
+
+    // The word of the stack's entry at a place.
+    pub fn least(self, place: Place) -> usize
+        requires { place.0 ≤ 8207 }
+        ensures { result ≡ base_of self + 32 * place.0 + 4 }
+    {
+        self.word(place.0, 4)
+    }
+
+    // The first row of its run.
+    pub fn first(self, place: Place) -> usize
+        requires { place.0 ≤ 8207 }
+        ensures { result ≡ base_of self + 32 * place.0 + 5 }
+    {
+        self.word(place.0, 5)
+    }
+
+    // The head of a hash bucket.
+    pub fn head(self, bucket: usize) -> usize
+        requires { bucket ≤ 8207 }
+        ensures { result ≡ base_of self + 32 * bucket + 7 }
+    {
+        self.word(bucket, 7)
+    }
 }
 
 // Where a role's header words start.

@@ -22,7 +22,7 @@ use Rattle.layout.proofs.Puts.{puts_lanes}
 use Rattle.table.specs.Marks.{After}
 use Rattle.table.proofs.Active.{own}
 use Rattle.table.proofs.Kept.{active_same, position_same}
-use Rattle.stack.specs.Packing.{packed, Faithful}
+use Rattle.packing.specs.Packing.{packed, Faithful}
 use Rattle.ranges.specs.Holding.{LaneHolds, Roles, roles_of, marks_in}
 use Rattle.ranges.specs.Private.{Carried, Grows}
 use Rattle.ranges.proofs.Lanes.{lane_same}

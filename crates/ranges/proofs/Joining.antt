@@ -8,7 +8,7 @@ use Prim.Native.Nat.{ℕ, ◌+◌, ◌*◌, ◌<◌, ◌≤◌}
 use native.Mathlib.Omega.{arith}
 use lib.ListN.{length, length-append}
 use Rattle.history.specs.declared.Position.{Position}
-use Rattle.history.specs.declared.Minimum.{Minimum}
+use Rattle.history.specs.Minimum.{Minimum}
 use Rattle.history.specs.declared.Standing.{Standing}
 use Rattle.history.specs.declared.Standing.TheVariants.{Unmarked, Marked}
 use Rattle.history.specs.declared.Event.{Event}
@@ -30,7 +30,7 @@ use Rattle.layout.proofs.Written.{each_lane, each_kind, lane_then}
 use Rattle.layout.proofs.Puts.{puts_lanes}
 use Rattle.table.specs.Marks.{After, active_below}
 use Rattle.table.proofs.Kept.{active_same, position_same}
-use Rattle.stack.specs.Packing.{packed, unpacked, Faithful}
+use Rattle.packing.specs.Packing.{packed, unpacked, Faithful}
 use Rattle.ranges.specs.Holding.{Roles, roles_of, marks_in, Laid, Started, Unfinished, Soon, Holds}
 use Rattle.ranges.specs.Private.{Grows, Appended, size_for, turning, Turns, Turned, Shared}
 use Rattle.ranges.proofs.Lanes.{lane_same}

@@ -7,7 +7,7 @@ use native.Mathlib.Omega.{arith}
 use lib.IntN.{ℤ}
 use lib.ListN.{length, length-append}
 use Rattle.history.specs.declared.Position.{Position}
-use Rattle.history.specs.declared.Minimum.{Minimum}
+use Rattle.history.specs.Minimum.{Minimum}
 use Rattle.history.specs.Minima.{stands_at, next, present_at, minimum}
 use Rattle.history.proofs.Lowest.{minimum_more, minimum_least, minimum_rises, minimum_later_place}
 use Rattle.layout.specs.declared.Held.{Held}
@@ -21,10 +21,10 @@ use Rattle.table.specs.Marks.{After, active_in, inserted, released}
 use Rattle.table.proofs.Insertion.{insertion_within, insertion_linked, insertion_active, insertion_old, insertion_new}
 use Rattle.table.proofs.Closing.{release_within, release_linked, release_position}
 use Rattle.table.proofs.Kept.{linked_same, active_same, position_same}
-use Rattle.stack.specs.Packing.{packed, Faithful}
+use Rattle.packing.specs.Packing.{packed, Faithful}
 use Rattle.stack.specs.Entries.{Stacked, Rests}
 use Rattle.stack.specs.Calls.{Lowered, Pushed}
-use Rattle.stack.proofs.Words.{packed-lower, faithful_lower, packed_rises}
+use Rattle.packing.proofs.Words.{packed-lower, faithful_lower, packed_rises}
 use Rattle.stack.proofs.Kept.{stacked_same, rests_same}
 use Rattle.stack.proofs.Runs.{rests_unique, top_rests}
 use Rattle.stack.proofs.Lowering.{lowered_within, lowered_stacked, lowered_rests}

@@ -11,7 +11,7 @@ use Rattle.history.specs.declared.Position.{Position}
 use Rattle.history.specs.Minima.{minimum}
 use Rattle.layout.specs.declared.Extent.{Extent}
 use Rattle.layout.specs.Words.{row₀, bottom, position, least_word, Room}
-use Rattle.stack.specs.Packing.{packed, Faithful}
+use Rattle.packing.specs.Packing.{packed, Faithful}
 use Rattle.ranges.specs.Holding.{LaneHolds, Roles, Laid, Started}
 use Rattle.ranges.proofs.Lanes.{room_less}
 use Rattle.ranges.proofs.Parts.{packed_parts, faithful_parts, lowest_entry}

@@ -8,13 +8,13 @@ use native.Mathlib.Omega.{arith}
 use lib.IntN.{ℤ}
 use lib.ListN.{length, take}
 use Rattle.history.specs.declared.Position.{Position}
-use Rattle.history.specs.declared.Minimum.{Minimum}
+use Rattle.history.specs.Minimum.{Minimum}
 use Rattle.history.specs.Minima.{takes_over, lower, minimum}
 use Rattle.history.proofs.TwoParts.{part_place, rest_place, parts_meet, minimum_parts}
 use Rattle.layout.specs.declared.Extent.{Extent}
 use Rattle.layout.specs.Words.{row₀, bottom, position, least_word}
-use Rattle.stack.specs.Packing.{packed, Faithful}
-use Rattle.stack.proofs.Words.{packed-lower, faithful_lower}
+use Rattle.packing.specs.Packing.{packed, Faithful}
+use Rattle.packing.proofs.Words.{packed-lower, faithful_lower}
 use Rattle.stack.proofs.Runs.{rests_unique, covers_rests, first_covers}
 use Rattle.ranges.specs.Holding.{LaneHolds}
 

@@ -22,7 +22,7 @@ use Rattle.layout.proofs.Puts.{puts_lanes}
 use Rattle.table.specs.Marks.{active_in, active_below}
 use Rattle.table.proofs.Active.{own, below_after, below_fewer}
 use Rattle.table.proofs.Kept.{active_same}
-use Rattle.stack.specs.Packing.{packed}
+use Rattle.packing.specs.Packing.{packed}
 use Rattle.stack.specs.Calls.{Advanced}
 use Rattle.stack.proofs.Kept.{stacked_same, covers_same}
 use Rattle.stack.proofs.Runs.{rests_unique, covers_rests, advance_covers}

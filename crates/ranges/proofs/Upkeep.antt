@@ -23,7 +23,7 @@ use Rattle.layout.proofs.Written.{each_lane, each_kind, lane_then}
 use Rattle.layout.proofs.Puts.{reading, puts_lanes}
 use Rattle.table.specs.Marks.{After}
 use Rattle.table.proofs.Kept.{active_same, position_same}
-use Rattle.stack.specs.Packing.{packed, Faithful}
+use Rattle.packing.specs.Packing.{packed, Faithful}
 use Rattle.stack.specs.Calls.{Lowered}
 use Rattle.stack.proofs.Lowering.{lowered_within}
 use Rattle.ranges.specs.Holding.{Roles, roles_of, marks_in, Laid, Started, Unfinished, Soon, Holds}
@@ -95,7 +95,7 @@ module _ (w u : List ℕ) (n k : ℕ) (l : 576 ≤ length w) (long : length u �
         older_few = omega arith;
       })
       (λ z. absurd (omega arith)) (λ z. absurd (omega arith)) (λ z. absurd (omega arith)) refl
-      (λ e. absurd (let z : ◌≡◌ {A = ℕ} 0 1 = cc in omega arith))
+      (λ e. absurd (cc))
       (λ i b. (puts_lanes opening_puts u refl).words i (omega arith) ∙ same i (omega arith))
 
 -- A VALUE: u are the words after the stack's change

@@ -14,7 +14,7 @@ use Rattle.layout.specs.declared.Role.TheVariants.{Active, Younger, Older, Next}
 use Rattle.layout.specs.Words.{Earlier, Lower, row₀, position, extent_of, start_of, left_of, run_of}
 use Rattle.layout.specs.Frames.{Other}
 use Rattle.table.specs.Marks.{Linked, active_in, After}
-use Rattle.stack.specs.Packing.{packed, Faithful}
+use Rattle.packing.specs.Packing.{packed, Faithful}
 use Rattle.stack.specs.Entries.{Stacked, Covers, Rests}
 
 -- ONE LANE

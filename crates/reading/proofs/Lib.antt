@@ -1,3 +1,2 @@
-pub mod Readings
 pub mod Lengths
 pub mod Examples

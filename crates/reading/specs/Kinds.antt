@@ -1,19 +1,17 @@
 -- Document 01, "Command bytes", the table: a kind byte, the command that it starts, and the argument that is due.
-use Rattle.std.specs.Prelude.{cond, ℕ, ◌+◌, eqb}
+use Rattle.std.specs.Prelude.{cond, ℕ, ◌+◌, eqb, Option, Some, None}
 use Rattle.history.specs.declared.Command.{Command}
 use Rattle.signed.specs.TwosComplement.{signed_of}
 use Rattle.reading.specs.declared.Kind.{Kind}
-use Rattle.reading.specs.declared.KindByte.{KindByte}
-use Rattle.reading.specs.declared.KindByte.TheVariants.{Known, Unknown}
 
 -- the column "kind byte": 01 Value, 02 Mark, 03 Query, 04 Close
-abbrev pub kind_of : ℕ → KindByte
+abbrev pub kind_of : ℕ → Option Kind
 kind_of byte =
-    cond (eqb byte 1) (Known Kind.Value)
-    (cond (eqb byte 2) (Known Kind.Mark)
-    (cond (eqb byte 3) (Known Kind.Query)
-    (cond (eqb byte 4) (Known Kind.Close)
-    Unknown)))
+    cond (eqb byte 1) (Some Kind.Value)
+    (cond (eqb byte 2) (Some Kind.Mark)
+    (cond (eqb byte 3) (Some Kind.Query)
+    (cond (eqb byte 4) (Some Kind.Close)
+    None)))
 
 -- how many bytes of argument are due: "Arguments are four bytes", and a Mark has "none"
 abbrev pub argument_bytes : Kind → ℕ

@@ -2,7 +2,8 @@
 // numbers of `endian` and `signed`; what a command does is not known here.
 #![tactic(auto)]
 
-ghost use Rattle.std.specs.Prelude.{◌≡◌};
+ghost use Rattle.std.specs.Prelude.{◌≡◌, ok_or};
+ghost use Rattle.history.specs.declared.Refusal.TheVariants.{UnknownKind};
 ghost use Rattle.reading.specs.Kinds.{kind_of, argument_bytes, command_of};
 ghost use Rattle.reading.specs.Outcomes.{read_as, reading_of};
 
@@ -17,32 +18,27 @@ enum Kind {
     Close,
 }
 
-// What a kind byte says.
+// A command that is read, and its length in bytes, the kind byte with them.
 #[derive(Clone, Copy)]
-enum KindByte {
-    Known(Kind),
-    Unknown,
+pub struct Next {
+    pub command: Command,
+    pub length: usize,
 }
 
-// What reading at the start of the rest of a stream finds.
-#[derive(Clone, Copy)]
-pub enum Reading {
-    // Nothing is left.
-    End,
-    // A command and its length in bytes, the kind byte with them.
-    Next { command: Command, length: usize },
-    Refused(Refusal),
-}
+// The kind that a byte stands for, or 2.
+impl TryFrom<u8> for Kind {
+    type Error = Refusal;
 
-fn kind_of(byte: u8) -> KindByte
-    ensures { result ≡ kind_of byte }
-{
-    match byte {
-        1 => KindByte::Known(Kind::Value),
-        2 => KindByte::Known(Kind::Mark),
-        3 => KindByte::Known(Kind::Query),
-        4 => KindByte::Known(Kind::Close),
-        _ => KindByte::Unknown,
+    ghost try_from_gives = { λ byte kind. kind ≡ ok_or (kind_of byte) UnknownKind };
+
+    fn try_from(byte: u8) -> Result<Kind, Refusal> {
+        match byte {
+            1 => Ok(Kind::Value),
+            2 => Ok(Kind::Mark),
+            3 => Ok(Kind::Query),
+            4 => Ok(Kind::Close),
+            _ => Err(Refusal::UnknownKind),
+        }
     }
 }
 
@@ -68,25 +64,21 @@ fn command_of(kind: Kind, argument: u32) -> Command
     }
 }
 
-// The next command of the rest of a stream, which starts wherever the last command ended.
-pub fn read(rest: &[u8]) -> Reading
+// The next command of the rest of a stream, which starts wherever the last command ended, if anything is left, or why it cannot be read.
+pub fn read(rest: &[u8]) -> Result<Option<Next>, Refusal>
     ensures { read_as result ≡ reading_of rest.now }
 {
-    if rest.len() == 0 {
-        return Reading::End;
-    }
-    let known = kind_of(rest[0]);
-    let KindByte::Known(kind) = known else {
-        return Reading::Refused(Refusal::UnknownKind);
+    let Some((first, behind)) = rest.split_first() else {
+        return Ok(None);
     };
+    let kind = Kind::try_from(*first)?;
     let width = argument_bytes(kind);
-    if rest.len() - 1 < width {
-        return Reading::Refused(Refusal::ArgumentCutOff);
+    if behind.len() < width {
+        return Err(Refusal::ArgumentCutOff);
     }
-    let length = 1 + width;
-    let argument = endian::little_endian(&rest[1..length]);
-    Reading::Next {
+    let argument = endian::little_endian(&behind[..width]);
+    Ok(Some(Next {
         command: command_of(kind, argument),
-        length,
-    }
+        length: 1 + width,
+    }))
 }

@@ -2,11 +2,11 @@
 use mathlib.Core.Path.{◌≡◌, refl, ap, ◌∙◌}
 use mathlib.Core.Bool.{Bool, true, false, cond}
 use mathlib.Core.List.{List, [], ◌∷◌, ◌++◌, append-nil}
-use mathlib.Core.Option.{some}
+use Rattle.std.specs.Prelude.{Some}
 use native.Mathlib.Omega.{arith}
 use lib.IntN.{ℤ}
 use Rattle.history.specs.declared.Position.{Position}
-use Rattle.history.specs.declared.Minimum.{Minimum}
+use Rattle.history.specs.Minimum.{Minimum}
 use Rattle.history.specs.Minima.{takes_over, lower, next, present_at, minimum}
 use Rattle.history.proofs.Parts.{minimum-behind, minimum-append}
 use Rattle.blocks.specs.Takes.{least_of}
@@ -29,7 +29,7 @@ least_append (u ∷ us) (w ∷ ws) =
     let both = minimum-append (u ∷ us) (w ∷ ws) first (omega arith) (omega arith) (omega arith) in
     let second : (minimum (u ∷ us ++ (w ∷ ws)) (next (present_at (u ∷ us)))).value ≡ (minimum (w ∷ ws) first).value =
     ap (λ (m : Minimum). m.value) (minimum-behind (u ∷ us) (w ∷ ws) first (omega arith)) in
-    ap some
+    ap Some
     (ap (λ (m : Minimum). m.value) both
     ∙ lower-value (minimum (u ∷ us) first) (minimum (u ∷ us ++ (w ∷ ws)) (next (present_at (u ∷ us))))
     ∙ ap (λ (v : ℤ). cond (takes_over v (minimum (u ∷ us) first).value) v (minimum (u ∷ us) first).value) second)

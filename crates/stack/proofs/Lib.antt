@@ -1,4 +1,3 @@
-pub mod Words
 pub mod Rises
 pub mod Parting
 pub mod Halving

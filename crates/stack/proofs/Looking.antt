@@ -1,30 +1,28 @@
 -- What a look at the place whose run has a row says of the row's word: the stack has only one, and it is that place's entry.
 use mathlib.Core.Path.{refl, ap, ◌∙◌}
 use mathlib.Core.List.{List}
-use mathlib.Core.Option.{some}
+use Rattle.std.specs.Prelude.{Option, None, Some}
 use Prim.Native.Nat.{ℕ}
 use native.Mathlib.Omega.{arith}
 use Rattle.layout.specs.declared.Held.{Held}
 use Rattle.layout.specs.declared.Place.{Place}
 use Rattle.layout.specs.declared.Lane.{Lane}
 use Rattle.layout.specs.Words.{Room}
-use Rattle.stack.specs.declared.Low.{Low}
-use Rattle.stack.specs.declared.Low.TheVariants.{Nothing}
 use Rattle.stack.specs.Calls.{Entered, Looked}
 use Rattle.stack.specs.Private.{Located}
 use Rattle.stack.proofs.Runs.{covers_rests, rests_unique}
 use Rattle.stack.proofs.Rooms.{room_below}
 
 -- with no room there is nothing to look at
-pub unseen : {w : List ℕ} {k : Lane} {height : Place} {h : Held} → (Room w height.0 → ⊥) → Looked w k height h Nothing
+pub unseen : {w : List ℕ} {k : Lane} {height : Place} {h : Held} → (Room w height.0 → ⊥) → Looked w k height h None
 unseen n = record { nothing = λ f. refl; shown = λ o l. absurd (n o); right = λ rows o s l x q. absurd (n (room_below o s.low)) }
 
 -- the entry at the row's place is its word
-pub seen : {w : List ℕ} {k : Lane} {height t : Place} {h : Held} {r : Low} → Room w height.0 → Located w k height h t → Entered w k height t r → Looked w k height h r
+pub seen : {w : List ℕ} {k : Lane} {height t : Place} {h : Held} {r : Option ℕ} → Room w height.0 → Located w k height h t → Entered w k height t r → Looked w k height h r
 seen {t = t} o p e = record {
   nothing = λ f. e.nothing (λ o l. f o (omega arith));
   shown = λ o l. (t, p.within l, e.shown o (p.within l));
   right = λ rows u s l x q.
       let c = p.covers rows u s l in
-      e.shown o c.on ∙ ap some (rests_unique s (covers_rests c) q);
+      e.shown o c.on ∙ ap Some (rests_unique s (covers_rests c) q);
 }

@@ -1,18 +1,10 @@
 -- What each function of the stack promises, of any words, any height and any place.
-use Rattle.std.specs.Prelude.{◌≡◌, List, ℕ, ◌+◌, ◌<◌, ◌≤◌}
-use Rattle.std.proofs.Math.Option.{Option, none, some}
+use Rattle.std.specs.Prelude.{◌≡◌, List, ℕ, Option, None, Some, ◌+◌, ◌<◌, ◌≤◌}
 use Rattle.layout.specs.declared.Held.{Held}
 use Rattle.layout.specs.declared.Place.{Place}
 use Rattle.layout.specs.declared.Lane.{Lane}
 use Rattle.layout.specs.Words.{Lower, Under, above, least_word, first, Room}
-use Rattle.stack.specs.declared.Low.{Low}
-use Rattle.stack.specs.declared.Low.TheVariants.{At, Nothing}
 use Rattle.stack.specs.Entries.{Ascending, Stacked, Rests, Parts, lowered, pushed}
-
--- the word that each case of a look's answer gives, in the form that document 01 asks of an answer that is an enum
-abbrev pub word_shown : Low → Option ℕ
-word_shown (At x) = some x
-word_shown Nothing = none
 
 -- the word x comes. With no room for so high a stack nothing is done. Else there is a place, at most the height: at the height nothing is done, and below it the entry there is x
 -- from then on, and the top. In ascending words it parts those that stay from those above x; of others the choice is the program's
@@ -32,9 +24,9 @@ pub record Pushed (w v : List ℕ) (k : Lane) (height : Place) (h : Held) (x : �
   pub raises : Room w (height.0 + 1) → ((t : Place) → above t ≡ height → least_word w k t ≡ x → ⊥) → (v ≡ pushed w k height h x) × (r ≡ above height)
 
 -- the entry at place t; with no such entry, or no room for so high a stack, nothing
-pub record Entered (w : List ℕ) (k : Lane) (height t : Place) (r : Low) : Type 0 where
-  pub shown : Room w height.0 → Under t height → word_shown r ≡ some (least_word w k t)
-  pub nothing : (Room w height.0 → Under t height → ⊥) → word_shown r ≡ none
+pub record Entered (w : List ℕ) (k : Lane) (height t : Place) (r : Option ℕ) : Type 0 where
+  pub shown : Room w height.0 → Under t height → r ≡ Some (least_word w k t)
+  pub nothing : (Room w height.0 → Under t height → ⊥) → r ≡ None
 
 -- the run after place t, where it starts at row h or below, and else the run at t; with no room for so high a stack, that at t
 pub record Advanced (w : List ℕ) (k : Lane) (height t : Place) (h : Held) (r : Place) : Type 0 where
@@ -43,7 +35,7 @@ pub record Advanced (w : List ℕ) (k : Lane) (height t : Place) (h : Held) (r :
 
 -- the word that the stack has for row h. Of any words, what is shown is an entry of the stack, and with no room for so high a stack, or no entry, nothing: which entry is
 -- the program's choice, and in a stack it is the row's own
-pub record Looked (w : List ℕ) (k : Lane) (height : Place) (h : Held) (r : Low) : Type 0 where
-  pub nothing : (Room w height.0 → 0 < height.0 → ⊥) → word_shown r ≡ none
-  pub shown : Room w height.0 → 0 < height.0 → (t : Place) × Under t height × (word_shown r ≡ some (least_word w k t))
-  pub right : (rows : Held) → Room w rows.0 → Stacked w k rows height → Lower h rows → (x : ℕ) → Rests w k height h x → word_shown r ≡ some x
+pub record Looked (w : List ℕ) (k : Lane) (height : Place) (h : Held) (r : Option ℕ) : Type 0 where
+  pub nothing : (Room w height.0 → 0 < height.0 → ⊥) → r ≡ None
+  pub shown : Room w height.0 → 0 < height.0 → (t : Place) × Under t height × (r ≡ Some (least_word w k t))
+  pub right : (rows : Held) → Room w rows.0 → Stacked w k rows height → Lower h rows → (x : ℕ) → Rests w k height h x → r ≡ Some x

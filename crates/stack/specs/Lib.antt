@@ -1,4 +1,3 @@
-pub mod Packing
 pub mod Entries
 pub mod Calls
 pub mod Private

@@ -1,21 +1,27 @@
 -- The contracts of the stack's private functions.
-use Rattle.std.specs.Prelude.{◌≡◌, List, ℕ, ◌<◌, ◌≤◌}
+use Rattle.std.specs.Prelude.{Bool, List, ℕ, cond, leb, ltb, ◌%◌, ◌<◌, ◌≤◌}
 use Rattle.layout.specs.declared.Held.{Held}
 use Rattle.layout.specs.declared.Place.{Place}
 use Rattle.layout.specs.declared.Lane.{Lane}
-use Rattle.layout.specs.Words.{Lower, Under, Room}
+use Rattle.layout.specs.Words.{Lower, Under, word, Room}
 use Rattle.stack.specs.Entries.{Ascending, Stacked, Covers, Parts}
 
--- `by_halves` and `taken_over`: a place at most the height, which in ascending words parts those at most x from those above it
+-- whether the entry at place n is above x
+abbrev pub is_above : List ℕ → Lane → ℕ → ℕ → Bool
+is_above w k x n = ltb x (word w k n 4)
+
+-- `taken_over`: a place at most the height, which in ascending words parts those at most x from those above it
 pub record Parted (w : List ℕ) (k : Lane) (height : Place) (x : ℕ) (r : Place) : Type 0 where
   pub within : r.0 ≤ height.0
   pub right : Ascending w k height → Parts w k height x r
 
--- `onward`: by half, or not at all
-pub record Onward (half : ℕ) (first row : Held) (r : ℕ) : Type 0 where
-  pub most : r ≤ half
-  pub goes : first.0 ≤ row.0 → r ≡ half
-  pub stays : Lower row first → r ≡ 0
+-- `starts_by`: 1 of a run that starts at the row or below it, else 0
+abbrev pub starts_by : Held → Held → ℕ
+starts_by first row = cond (leb first.0 row.0) 1 0
+
+-- the same of the run at place n, whose first row counts by its remainder
+abbrev pub run_starts_by : List ℕ → Lane → Held → ℕ → ℕ
+run_starts_by w k row n = starts_by (record { 0 = word w k n 5 % 65536 }) row
 
 -- `covering`: a place below the height where there is one, which in a stack is that of the run that has row h
 pub record Located (w : List ℕ) (k : Lane) (height : Place) (h : Held) (r : Place) : Type 0 where

@@ -1,194 +1,132 @@
 // The stack of source document 000 in a lane: an entry for each run of rows that share a range minimum.
 #![tactic(auto)]
 
-ghost use Rattle.std.specs.Prelude.{◌≡◌, ◌<◌};
+ghost use Rattle.std.specs.Prelude.{◌≡◌, ◌+◌, ◌<◌};
 ghost use Rattle.layout.specs.Words.{Room};
-ghost use Rattle.stack.specs.Packing.{packed, unpacked};
 ghost use Rattle.stack.specs.Calls.{Lowered, Pushed, Entered, Looked, Advanced};
-ghost use Rattle.stack.specs.Private.{Parted, Onward, Located};
+ghost use Rattle.stack.specs.Private.{is_above, Parted, starts_by, run_starts_by, Located};
 
-use history::{Minimum, Position};
-use layout::{Held, Lane, Place};
+use layout::{Extent, Held, Place};
 
-// What a look at the stack finds: the word of a minimum.
-#[derive(Clone, Copy)]
-pub enum Low {
-    At(u64),
-    Nothing,
-}
+// The entries that a value looks at one by one, from the top down. What lies below them is searched by halves.
+const LOOKS: usize = 5;
 
-// The entries that a value passes one by one, from the top down. What lies below them is searched by halves.
-const LOOKS: usize = 4;
-
-// A minimum as a word. The order of words is that of the values and, among equal values, that of the choice: the earlier place is the lower word.
-pub fn pack(m: Minimum) -> u64
-    ensures { (result ≡ packed m) × (unpacked result ≡ m) }
+// The lowest of a stack's places whose entry is above a word, or its height where none is: some looks from the top down, and then by halves (source document 000, Theorem 3).
+fn taken_over(area: &[u64], e: Extent, word: u64) -> Place
+    requires { Room area.now e.height.0 }
+    ensures { Parted area.now e.lane e.height word result }
 {
-    let place = m.place;
-    signed::to_word(m.value) * 4294967296 + place.0 as u64
-}
-
-// The minimum of a word, so that every word has one.
-pub fn unpack(word: u64) -> Minimum
-    ensures { result ≡ unpacked word }
-{
-    Minimum {
-        value: signed::from_word(word / 4294967296),
-        place: Position((word % 4294967296) as u32),
-    }
-}
-
-// The lowest of the places below `top` whose entry is above a word, or `top` where none is: by halves (source document 000, Theorem 3).
-fn by_halves(area: &[u64], lane: Lane, top: Place, word: u64) -> Place
-    requires { Room area.now top.0 }
-    ensures { Parted area.now lane top word result }
-{
-    let base = 32 + 8 * (lane.0 % 4);
-    let mut low = 0;
-    let mut size = top.0;
-    while 0 < size {
-        let half = size / 2;
-        if word < area[base + 32 * (low + half) + 4] {
-            size = half;
-        } else {
-            low += half + 1;
-            size -= half + 1;
-        }
-    }
-    Place(low)
-}
-
-// The same, with a few looks from the top down first.
-fn taken_over(area: &[u64], lane: Lane, height: Place, word: u64) -> Place
-    requires { Room area.now height.0 }
-    ensures { Parted area.now lane height word result }
-{
-    let base = 32 + 8 * (lane.0 % 4);
-    let mut k = height.0;
-    let mut looks = LOOKS;
-    while 0 < k {
-        if area[base + 32 * (k - 1) + 4] <= word {
-            return Place(k);
-        }
-        if looks == 0 {
-            return by_halves(area, lane, Place(k), word);
-        }
-        k -= 1;
-        looks -= 1;
-    }
-    Place(k)
+    let lane = e.lane;
+    Place(halves::first_near_top(
+        e.height.0,
+        LOOKS,
+        |k: usize| -> bool
+            requires { Room area.now (k + 1) }
+            ensures { result ≡ is_above area.entry.now lane word k }
+        { word < area[lane.least(Place(k))] },
+    ))
 }
 
 // A value comes, as a word. The entries above it are popped, and the lowest of them holds it from then on, with all their runs. The new height.
-pub fn lower(area: &mut [u64], lane: Lane, height: Place, word: u64) -> Place
-    ensures { Lowered area.old area.new lane height word result }
+pub fn lower(area: &mut [u64], e: Extent, word: u64) -> Place
+    ensures { Lowered area.old area.new e.lane e.height word result }
 {
-    if !layout::has_room(area, height.0) {
-        return height;
+    if !layout::has_room(area, e.height.0) {
+        return e.height;
     }
-    let top = taken_over(area, lane, height, word);
-    if height.0 <= top.0 {
-        return height;
+    let top = taken_over(area, e, word);
+    if e.height <= top {
+        return e.height;
     }
-    let base = 32 + 8 * (lane.0 % 4);
-    let t = top.0;
-    area[base + 32 * t + 4] = word;
-    Place(t + 1)
+    area[e.lane.least(top)] = word;
+    Place(top.0 + 1)
 }
 
-// A row after the last gets a minimum. Source document 000's Mark pushes the value, "unless it is there already": where the top entry is the same word the row joins its run.
+// The row after the last gets a minimum. Source document 000's Mark pushes the value, "unless it is there already": where the top entry is the same word the row joins its run.
 // The new height.
-pub fn push(area: &mut [u64], lane: Lane, height: Place, row: Held, word: u64) -> Place
-    ensures { Pushed area.old area.new lane height row word result }
+pub fn push(area: &mut [u64], e: Extent, word: u64) -> Place
+    ensures { Pushed area.old area.new e.lane e.height e.rows word result }
 {
-    if layout::MOST_ROWS <= height.0 {
-        return height;
+    if layout::MOST_ROWS <= e.height.0 {
+        return e.height;
     }
-    if !layout::has_room(area, height.0 + 1) {
-        return height;
+    if !layout::has_room(area, e.height.0 + 1) {
+        return e.height;
     }
-    let base = 32 + 8 * (lane.0 % 4);
-    let t = height.0;
-    if 0 < t {
-        if area[base + 32 * (t - 1) + 4] == word {
-            return height;
+    if 0 < e.height.0 {
+        if area[e.lane.least(Place(e.height.0 - 1))] == word {
+            return e.height;
         }
     }
-    area[base + 32 * t + 4] = word;
-    area[base + 32 * t + 5] = row.0 as u64;
-    Place(t + 1)
+    area[e.lane.least(e.height)] = word;
+    area[e.lane.first(e.height)] = e.rows.0 as u64;
+    Place(e.height.0 + 1)
 }
 
-// The entry at a place.
-pub fn entry_at(area: &[u64], lane: Lane, height: Place, place: Place) -> Low
-    ensures { Entered area.now lane height place result }
+// The entry at a place: the word of a minimum.
+pub fn entry_at(area: &[u64], e: Extent, place: Place) -> Option<u64>
+    ensures { Entered area.now e.lane e.height place result }
 {
-    if !layout::has_room(area, height.0) {
-        return Low::Nothing;
+    if !layout::has_room(area, e.height.0) {
+        return None;
     }
-    if height.0 <= place.0 {
-        return Low::Nothing;
+    if e.height <= place {
+        return None;
     }
-    let base = 32 + 8 * (lane.0 % 4);
-    let t = place.0;
-    Low::At(area[base + 32 * t + 4])
+    Some(area[e.lane.least(place)])
 }
 
 // The run that has a row, from the run that has the row before it: the same, or the next one where it starts at the row.
-pub fn advance(area: &[u64], lane: Lane, height: Place, place: Place, row: Held) -> Place
-    ensures { Advanced area.now lane height place row result }
+pub fn advance(area: &[u64], e: Extent, place: Place, row: Held) -> Place
+    ensures { Advanced area.now e.lane e.height place row result }
 {
-    if !layout::has_room(area, height.0) {
+    if !layout::has_room(area, e.height.0) {
         return place;
     }
-    let base = 32 + 8 * (lane.0 % 4);
-    let t = place.0;
-    if height.0 <= t {
+    if e.height <= place {
         return place;
     }
-    if height.0 <= t + 1 {
+    let next = Place(place.0 + 1);
+    if e.height <= next {
         return place;
     }
-    if (row.0 as u64) < area[base + 32 * (t + 1) + 5] {
+    if (row.0 as u64) < area[e.lane.first(next)] {
         return place;
     }
-    Place(t + 1)
+    next
 }
 
-// How far the search goes on: by half where the run there starts at the row or below it, else not. It is arithmetic because a branch
-// would be guessed wrong every other time.
-fn onward(half: usize, first: Held, row: Held) -> usize
-    requires { (half < 65536) × (first.0 < 65536) × (row.0 < 65536) }
-    ensures { Onward half first row result }
+// 1 of a run that starts at the row or below it, else 0. It is arithmetic because a branch would be guessed wrong every other time.
+fn starts_by(first: Held, row: Held) -> usize
+    requires { (first.0 < 65536) × (row.0 < 65536) }
+    ensures { result ≡ starts_by first row }
 {
-    half * ((65536 + row.0 - first.0) / 65536)
+    (65536 + row.0 - first.0) / 65536
 }
 
 // The place whose run has a row: a predecessor search over the runs' first rows (source document 000, Theorem 3). No lane has 65,536
 // rows, so the remainders alter nothing of a stack's rows; of other contents they keep the numbers small.
-fn covering(area: &[u64], lane: Lane, height: Place, held: Held) -> Place
-    requires { Room area.now height.0 }
-    ensures { Located area.now lane height held result }
+fn covering(area: &[u64], e: Extent, held: Held) -> Place
+    requires { Room area.now e.height.0 }
+    ensures { Located area.now e.lane e.height held result }
 {
-    let base = 32 + 8 * (lane.0 % 4);
-    let row = held.0 % 65536;
-    let mut low = 0;
-    let mut size = height.0;
-    while 1 < size {
-        let half = size / 2;
-        let first = (area[base + 32 * (low + half) + 5] % 65536) as usize;
-        low += onward(half, Held(first), Held(row));
-        size -= half;
-    }
-    Place(low)
+    let lane = e.lane;
+    let row = Held(held.0 % 65536);
+    Place(halves::last_where(
+        e.height.0,
+        |k: usize| -> usize
+            requires { Room area.now (k + 1) × (row.0 < 65536) }
+            ensures { result ≡ run_starts_by area.entry.now lane row k }
+        { starts_by(Held(area[lane.first(Place(k))] as usize % 65536), row) },
+    ))
 }
 
 // The minimum that the stack has for a row, as a word.
-pub fn least_at(area: &[u64], lane: Lane, height: Place, held: Held) -> Low
-    ensures { Looked area.now lane height held result }
+pub fn least_at(area: &[u64], e: Extent, held: Held) -> Option<u64>
+    ensures { Looked area.now e.lane e.height held result }
 {
-    if !layout::has_room(area, height.0) {
-        return Low::Nothing;
+    if !layout::has_room(area, e.height.0) {
+        return None;
     }
-    entry_at(area, lane, height, covering(area, lane, height, held))
+    entry_at(area, e, covering(area, e, held))
 }

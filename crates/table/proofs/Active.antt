@@ -3,7 +3,7 @@ use mathlib.Core.Path.{◌≡◌, refl, sym, ap, subst, ◌∙◌}
 use mathlib.Core.Bool.{Bool, true, false, or-true, false≢true}
 use mathlib.Core.List.{List, [], ◌++◌, append-nil, append_assoc}
 use mathlib.Core.Logic.{⊎_elim}
-use mathlib.Core.Option.{none, some}
+use Rattle.std.specs.Prelude.{Option, None, Some}
 use Prim.Native.Nat.{ℕ, zero, suc, ◌+◌, ◌*◌, ◌/◌, ◌%◌, ◌<◌, ◌≤◌}
 use native.Mathlib.Decide.{ℕ_discrete}
 use native.Mathlib.Numerals.{add-one}
@@ -17,9 +17,8 @@ use Rattle.history.specs.Histories.{among}
 use Rattle.layout.specs.declared.Held.{Held}
 use Rattle.layout.specs.declared.Lane.{Lane}
 use Rattle.layout.specs.Words.{word, mark_word, position}
-use Rattle.table.specs.declared.Found.{Found}
 use Rattle.table.specs.Marks.{Linked, Live, active_below, active_in}
-use Rattle.table.specs.Calls.{row_of, Sought}
+use Rattle.table.specs.Calls.{Sought}
 use Rattle.table.proofs.Positions.{unless, length_unless, among-unless, among-append}
 
 -- whether row n is closed
@@ -82,14 +81,13 @@ live_position w k rows p h l =
     ap (λ (n : ℕ). record { 0 = n }) e
 
 -- where a search of a table finds nothing, the position is not among the active ones
-pub not_among : (w : List ℕ) (k : Lane) (rows capacity : Held) (p : Position) (r : Found) → Sought w k rows capacity p r → Linked w k rows capacity
-    → row_of r ≡ none → among p (active_in w k rows) ≡ false
+pub not_among : (w : List ℕ) (k : Lane) (rows capacity : Held) (p : Position) (r : Option Held) → Sought w k rows capacity p r → Linked w k rows capacity
+    → r ≡ None → among p (active_in w k rows) ≡ false
 not_among w k rows capacity p r s t e =
     refuted _ (λ a.
     let m = among_live w k rows p a in
-    let found : none ≡ some m.0 = sym e ∙ s.complete t m.0 m.1 in
-    let z : ◌≡◌ {A = ℕ} 0 1 = cc in
-    omega arith)
+    let found : None ≡ Some m.0 = sym e ∙ s.complete t m.0 m.1 in
+    cc)
 
 -- rows with the same marks have the same active positions
 pub active_below_same : (w v : List ℕ) (k : Lane) (n : ℕ) → ((m : ℕ) → m < n → word v k m 1 ≡ word w k m 1) → active_below v k n ≡ active_below w k n

@@ -1,53 +1,31 @@
--- A search by halves among rows whose positions ascend: a row with the mark sought is one of the `size` rows from `low` on.
+-- A search by halves among rows whose positions ascend: of the row found the mark is not after the one sought, and of the next one it is. So no other row has the mark sought.
 use mathlib.Core.Path.{◌≡◌}
 use mathlib.Core.List.{List}
-use mathlib.Core.Logic.{⊎_elim}
-use Prim.Native.Nat.{ℕ, ◌+◌, ◌-◌, ◌/◌, ◌<◌, ◌≤◌}
+use Prim.Native.Nat.{ℕ, ◌+◌, ◌<◌, ◌≤◌}
+use native.Mathlib.Decide.{ℕ_discrete, dec_lt}
 use native.Mathlib.Omega.{arith}
-use Rattle.laws.proofs.Tests.{lt_or_ge}
-use Rattle.table.specs.Private.{Onward}
-use Rattle.table.proofs.Ordered.{mark_at, Ascending, not_after, before}
+use Rattle.std.proofs.lemmas.Bool.Decides.{nat_tests}
+use Rattle.layout.specs.declared.Lane.{Lane}
+use Rattle.layout.specs.Words.{base_of, word}
+use Rattle.table.specs.Private.{not_after, row_not_after}
+use Rattle.table.proofs.Ordered.{Ascending, upto, before}
 
-pub record Between (w : List ℕ) (base sought rows low size : ℕ) : Type 0 where
-  pub within : low + size ≤ rows
-  pub some : 0 < size
-  pub has : Ascending w base rows → (h : ℕ) → h < rows → mark_at w base h ≡ sought → (low ≤ h) × (h < low + size)
+-- what the test says of a mark
+early : (mark sought : ℕ) → 1 ≡ not_after mark sought → mark ≤ sought
+early mark sought e = grind (arith, nat_tests)
 
--- at first, all rows
-pub whole : (w : List ℕ) (base sought rows : ℕ) → 0 < rows → Between w base sought rows 0 rows
-whole w base sought rows l = record { within = omega arith; some = l; has = λ up h m e. (omega arith, omega arith) }
+late : (mark sought : ℕ) → 0 ≡ not_after mark sought → sought < mark
+late mark sought e = grind (arith, nat_tests)
 
--- a turn: the rows from the middle on, or those before it
-pub turn : {w : List ℕ} {base sought rows low size mark r : ℕ} → Between w base sought rows low size → 1 < size
-    → mark ≡ mark_at w base (low + size / 2) → Onward low (size / 2) mark sought r → Between w base sought rows r (size - size / 2)
-turn {w} {base} {sought} {rows} {low} {size} {mark} {r} b l e on =
-    ⊎_elim
-    (λ (z : sought < mark).
-    let q = on.stays z in
-    record {
-      within = omega (arith, b.within);
-      some = omega arith;
-      has = λ up h m i.
-          let s = b.has up h m i in
-          let n = before w base rows up h (low + size / 2) m (omega arith) in
-          (omega arith, omega arith);
-    })
-    (λ (z : mark ≤ sought).
-    let q = on.goes z in
-    record {
-      within = omega (arith, b.within);
-      some = omega arith;
-      has = λ up h m i.
-          let s = b.has up h m i in
-          let n = not_after w base rows up (low + size / 2) h (omega (arith, b.within)) (omega arith) in
-          (omega arith, omega arith);
-    })
-    (lt_or_ge sought mark)
-
--- one row is left: where its mark is not the one sought, no row's is
-pub missed : {w : List ℕ} {base sought rows low size : ℕ} → Between w base sought rows low size → size ≤ 1 → (mark_at w base low ≡ sought → ⊥)
-    → Ascending w base rows → (h : ℕ) → h < rows → mark_at w base h ≡ sought → ⊥
-missed {w} {base} {low} b l n up h m e =
-    let s = b.has up h m e in
-    let q : low ≡ h = omega arith in
-    n (rw q e)
+pub missed : (w : List ℕ) (k : Lane) {sought rows low : ℕ} → (0 < rows → low < rows) → (0 < low → 1 ≡ row_not_after w k sought low)
+    → (low + 1 < rows → 0 ≡ row_not_after w k sought (low + 1)) → (word w k low 1 ≡ sought → ⊥)
+    → Ascending w (base_of k) rows → (h : ℕ) → h < rows → word w k h 1 ≡ sought → ⊥
+missed w k {sought} {rows} {low} within here behind n up h m e =
+    let above : h ≤ low = elim (dec_lt low h) [
+      | yes l ↦ absurd (let b = before w (base_of k) rows up h (low + 1) m (omega (arith, e, late _ _ (behind (omega arith)))) in omega arith)
+      | no l ↦ omega arith
+    ] in
+    elim (ℕ_discrete h low) [
+      | yes q ↦ n (rw q at e)
+      | no d ↦ let b = upto w (base_of k) rows up low h (within (omega arith)) (omega (arith, e, early _ _ (here (omega arith)))) in omega arith
+    ]

@@ -1,11 +1,9 @@
-pub mod Roomy
 pub mod Buckets
 pub mod Ordered
 pub mod Chains
 pub mod Answers
 pub mod Halving
 pub mod Walking
-pub mod Stored
 pub mod Positions
 pub mod Active
 pub mod Kept

@@ -24,15 +24,15 @@ ascending w k rows rising g h = rising (record { 0 = g }) (record { 0 = h })
 
 module _ (w : List ℕ) (base rows : ℕ) (up : Ascending w base rows) where
   -- a row whose mark is not after another's does not come after it
-  pub not_after : (g h : ℕ) → g < rows → mark_at w base g ≤ mark_at w base h → g ≤ h
-  not_after g h l m = elim (dec_lt h g) [ yes a ↦ absurd (let r = up h g a l in omega arith) | no a ↦ omega arith ]
+  pub upto : (g h : ℕ) → g < rows → mark_at w base g ≤ mark_at w base h → g ≤ h
+  upto g h l m = elim (dec_lt h g) [ yes a ↦ absurd (let r = up h g a l in omega arith) | no a ↦ omega arith ]
 
   -- a row whose mark is before another's comes before it
   pub before : (g h : ℕ) → g < rows → mark_at w base g < mark_at w base h → g < h
   before g h l m =
-      let n = not_after g h l (omega arith) in
+      let n = upto g h l (omega arith) in
       elim (ℕ_discrete g h) [ yes e ↦ absurd (let q = ap (mark_at w base) e in omega arith) | no d ↦ omega arith ]
 
   -- rows with one mark are one row
   pub one_row : (g h : ℕ) → g < rows → h < rows → mark_at w base g ≡ mark_at w base h → g ≡ h
-  one_row g h l m e = omega (arith, not_after g h l (omega arith), not_after h g m (omega arith))
+  one_row g h l m e = omega (arith, upto g h l (omega arith), upto h g m (omega arith))

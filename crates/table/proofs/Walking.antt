@@ -1,13 +1,12 @@
 -- A walk along the chain after row `from`, down to row `top`: a row with the mark sought is on the chain that is left.
 use mathlib.Core.Path.{◌≡◌}
 use mathlib.Core.List.{List}
-use Prim.Native.Nat.{ℕ, ◌+◌, ◌*◌, ◌<◌, ◌≤◌}
+use Prim.Native.Nat.{ℕ, ◌<◌, ◌≤◌}
 use native.Mathlib.Omega.{arith}
-use Rattle.history.specs.declared.Position.{Position}
 use Rattle.layout.specs.declared.Held.{Held}
 use Rattle.layout.specs.declared.Lane.{Lane}
-use Rattle.layout.specs.Words.{Lower, base_of, word, mark_word, position, link}
-use Rattle.table.specs.Marks.{bucket_of, Chain, Rising, Linked, Live}
+use Rattle.layout.specs.Words.{Lower, base_of, word, mark_word, link}
+use Rattle.table.specs.Marks.{Chain, Rising}
 use Rattle.table.proofs.Ordered.{ascending, before}
 use Rattle.table.proofs.Chains.{chain_upto, chain_rest}
 
@@ -36,14 +35,3 @@ passed {w} {k} {sought} {from} {top} b g e l n = record { below = omega (arith, 
 -- no row is on a chain whose first row's mark is before its own: the chain leads to ever earlier rows
 pub too_early : (w : List ℕ) (k : Lane) (rows : Held) {top g h : Held} → Rising w k rows → Lower g rows → mark_word w k g < mark_word w k h → Chain w k h top g → ⊥
 too_early w k rows {g} {h} rising l m c = omega (arith, before w (base_of k) rows.0 (ascending w k rows rising) g.0 h.0 l m, chain_upto c)
-
-module _ {w : List ℕ} {k : Lane} {rows capacity : Held} {p : Position} {h : Held} (t : Linked w k rows capacity) (l : Live w k rows p h) (b g : ℕ) (bucket : b ≡ bucket_of p capacity) (first : g ≡ word w k b 7) where
-  -- an active mark of a table is on the chain of its position's bucket
-  pub bucketed : Chain w k h rows (record { 0 = g })
-  bucketed =
-      let e : (position w k h).0 ≡ p.0 = omega (arith, l.mark) in
-      rw (first, bucket) (rw e at (t.reached h l.row))
-
-  -- where it is not the first row there, it is on the chain after that
-  pub behind : (word w k g 1 ≡ 2 * p.0 + 1 → ⊥) → Beyond w k h g
-  behind n = chain_rest (λ q. n (rw q l.mark)) bucketed

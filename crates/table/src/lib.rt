@@ -2,21 +2,14 @@
 // this use has a head of this use, and from any other head a walk meets only rows of other positions.
 #![tactic(auto)]
 
-ghost use Rattle.std.specs.Prelude.{◌≡◌, ◌<◌, ◌≤◌};
+ghost use Rattle.std.specs.Prelude.{◌≡◌, ◌+◌, ◌*◌, ◌<◌, ◌≤◌};
 ghost use Rattle.layout.specs.Words.{Room};
 ghost use Rattle.table.specs.Marks.{bucket_of};
 ghost use Rattle.table.specs.Calls.{Sought, Inserted, Released};
-ghost use Rattle.table.specs.Private.{Onward, Halved, Walked};
+ghost use Rattle.table.specs.Private.{not_after, row_not_after, Halved, Walked};
 
 use history::Position;
-use layout::{Held, Lane};
-
-// What a search finds.
-#[derive(Clone, Copy)]
-pub enum Found {
-    At(Held),
-    Nothing,
-}
+use layout::{Extent, Held};
 
 // The links that a walk along a chain follows at most. What lies further is found by halves.
 const LINKS: usize = 5;
@@ -32,122 +25,114 @@ fn bucket(p: Position, capacity: Held) -> usize
     x * capacity.0 / 4294967296
 }
 
-// How far a search by halves goes on: to the row in the middle where its mark is not after the one sought, else not at all.
-fn onward(low: usize, half: usize, mark: u64, sought: u64) -> usize
-    requires { (low ≤ 8207) × (half ≤ 8207) }
-    ensures { Onward low half mark sought result }
+// The mark of a row that is active at a position.
+fn active_mark(p: Position) -> u64
+    ensures { result ≡ 2 * p.0 + 1 }
 {
-    if mark <= sought {
-        return low + half;
-    }
-    low
+    2 * (p.0 as u64) + 1
+}
+
+// 1 of a mark that is not after the one sought, else 0.
+fn not_after(mark: u64, sought: u64) -> usize
+    ensures { result ≡ not_after mark sought }
+{
+    (mark <= sought) as usize
 }
 
 // The row of the active mark at a position by halves: the rows are in the order of their positions.
-fn by_halves(area: &[u64], lane: Lane, rows: Held, p: Position) -> Found
-    requires { (0 < rows.0) × Room area.now rows.0 }
-    ensures { Halved area.now lane rows p result }
+fn by_halves(area: &[u64], e: Extent, p: Position) -> Option<Held>
+    requires { (0 < e.rows.0) × Room area.now e.rows.0 }
+    ensures { Halved area.now e.lane e.rows p result }
 {
-    let base = 32 + 8 * (lane.0 % 4);
-    let sought = 2 * (p.0 as u64) + 1;
-    let mut low = 0;
-    let mut size = rows.0;
-    while 1 < size {
-        let half = size / 2;
-        let mark = area[base + 32 * (low + half) + 1];
-        low = onward(low, half, mark, sought);
-        size -= half;
+    let lane = e.lane;
+    let sought = active_mark(p);
+    let held = Held(halves::last_where(
+        e.rows.0,
+        |n: usize| -> usize
+            requires { Room area.now (n + 1) }
+            ensures { result ≡ row_not_after area.entry.now lane sought n }
+        { not_after(area[lane.mark(Held(n))], sought) },
+    ));
+    if area[lane.mark(held)] == sought {
+        return Some(held);
     }
-    if area[base + 32 * low + 1] == sought {
-        return Found::At(Held(low));
-    }
-    Found::Nothing
+    None
 }
 
 // Further along the chain that has a row: some links, and then by halves. A chain leads to ever earlier rows, and so to ever earlier positions.
-fn further(area: &[u64], lane: Lane, rows: Held, p: Position, from: Held) -> Found
-    requires { (from.0 < rows.0) × Room area.now rows.0 }
-    ensures { Walked area.now lane rows p from result }
+fn further(area: &[u64], e: Extent, p: Position, from: Held) -> Option<Held>
+    requires { (from.0 < e.rows.0) × Room area.now e.rows.0 }
+    ensures { Walked area.now e.lane e.rows p from result }
 {
-    let base = 32 + 8 * (lane.0 % 4);
-    let sought = 2 * (p.0 as u64) + 1;
-    let mut top = from.0;
-    let mut links = LINKS;
-    while 0 < links {
-        let g = area[base + 32 * top + 2] as usize;
+    let sought = active_mark(p);
+    let mut top = from;
+    for _ in 0..LINKS {
+        let g = Held(area[e.lane.link(top)] as usize);
         if top <= g {
-            return Found::Nothing;
+            return None;
         }
-        let mark = area[base + 32 * g + 1];
+        let mark = area[e.lane.mark(g)];
         if mark == sought {
-            return Found::At(Held(g));
+            return Some(g);
         }
         if mark < sought {
-            return Found::Nothing;
+            return None;
         }
         top = g;
-        links -= 1;
     }
-    by_halves(area, lane, rows, p)
+    by_halves(area, e, p)
 }
 
-// The row of the active mark at a position, in a lane of so many rows. The walk ends on any contents.
-pub fn find(area: &[u64], lane: Lane, rows: Held, capacity: Held, p: Position) -> Found
-    ensures { Sought area.now lane rows capacity p result }
+// The row of the active mark at a position, in a lane. The walk ends on any contents.
+pub fn find(area: &[u64], e: Extent, p: Position) -> Option<Held>
+    ensures { Sought area.now e.lane e.rows e.capacity p result }
 {
-    if !layout::has_room(area, capacity.0) {
-        return Found::Nothing;
+    if !layout::has_room(area, e.capacity.0) {
+        return None;
     }
-    if rows.0 == 0 {
-        return Found::Nothing;
+    if e.rows == Held(0) {
+        return None;
     }
-    if capacity.0 < rows.0 {
-        return Found::Nothing;
+    if e.capacity < e.rows {
+        return None;
     }
-    let base = 32 + 8 * (lane.0 % 4);
-    let sought = 2 * (p.0 as u64) + 1;
-    let b = bucket(p, capacity);
-    let g = area[base + 32 * b + 7] as usize;
-    if rows.0 <= g {
-        return Found::Nothing;
+    let g = Held(area[e.lane.head(bucket(p, e.capacity))] as usize);
+    if e.rows <= g {
+        return None;
     }
-    if area[base + 32 * g + 1] == sought {
-        return Found::At(Held(g));
+    if area[e.lane.mark(g)] == active_mark(p) {
+        return Some(g);
     }
-    further(area, lane, rows, p, Held(g))
+    further(area, e, p, g)
 }
 
 // The next row becomes an active mark at a position, at the head of its bucket's chain; with no row to spare nothing is done.
-pub fn insert(area: &mut [u64], lane: Lane, rows: Held, capacity: Held, p: Position)
-    ensures { Inserted area.old area.new lane rows capacity p }
+pub fn insert(area: &mut [u64], e: Extent, p: Position)
+    ensures { Inserted area.old area.new e.lane e.rows e.capacity p }
 {
-    if !layout::has_room(area, capacity.0) {
+    if !layout::has_room(area, e.capacity.0) {
         return;
     }
-    if capacity.0 <= rows.0 {
+    if e.capacity <= e.rows {
         return;
     }
-    let base = 32 + 8 * (lane.0 % 4);
-    let m = rows.0;
-    let b = bucket(p, capacity);
-    let older = area[base + 32 * b + 7];
-    area[base + 32 * m + 1] = 2 * (p.0 as u64) + 1;
-    area[base + 32 * m + 2] = older;
-    area[base + 32 * b + 7] = m as u64;
+    let head = e.lane.head(bucket(p, e.capacity));
+    let older = area[head];
+    area[e.lane.mark(e.rows)] = active_mark(p);
+    area[e.lane.link(e.rows)] = older;
+    area[head] = e.rows.0 as u64;
 }
 
 // The mark of a row in use is closed; its row stays. With no such row nothing is done.
-pub fn release(area: &mut [u64], lane: Lane, rows: Held, held: Held)
-    ensures { Released area.old area.new lane rows held }
+pub fn release(area: &mut [u64], e: Extent, held: Held)
+    ensures { Released area.old area.new e.lane e.rows held }
 {
-    if !layout::has_room(area, rows.0) {
+    if !layout::has_room(area, e.rows.0) {
         return;
     }
-    if rows.0 <= held.0 {
+    if e.rows <= held {
         return;
     }
-    let base = 32 + 8 * (lane.0 % 4);
-    let h = held.0;
-    let mark = area[base + 32 * h + 1];
-    area[base + 32 * h + 1] = mark / 2 * 2;
+    let at = e.lane.mark(held);
+    area[at] = area[at] / 2 * 2;
 }

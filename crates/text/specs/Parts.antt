@@ -1,7 +1,7 @@
 -- Document 01, "Played examples": what lines are made of besides numbers: the space between two parts, the line's end, and a reply with what it shows.
 use Rattle.std.specs.Prelude.{List, [], ◌∷◌, ◌++◌, ℕ, ℤ}
 use Rattle.std.proofs.Math.Option.{Option, none, some}
-use Rattle.history.specs.declared.Minimum.{Minimum}
+use Rattle.history.specs.Minimum.{Minimum}
 use Rattle.history.specs.Replies.{ToldOf, Told}
 use Rattle.text.specs.Writing.{decimal_of, signed_text}
 

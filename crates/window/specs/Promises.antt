@@ -1,11 +1,11 @@
 -- What an opening and a value hand out for EVERY session and EVERY words, also ones that no call ever returned or left: document 02, point 2, with document 01's rule that all but what is
 -- free "is determined by its promise for every input". That no word outside the ends is read or written and that each call ends is what the checker shows of every function.
 use Rattle.std.specs.Prelude.{◌≡◌, List, ◌⊎◌, ℕ, ◌*◌, ◌<◌, ◌≤◌, ℤ, length, get_or}
-use Rattle.history.specs.declared.Minimum.{Minimum}
+use Rattle.history.specs.Minimum.{Minimum}
 use Rattle.history.specs.Minima.{next}
 use Rattle.history.specs.Replies.{Told, numbered, accepted, showing}
 use Rattle.window.specs.declared.Window.{Window}
-use Rattle.window.specs.declared.Answer.{Answer}
+use Rattle.window.specs.Answers.{Answer}
 
 -- what is known of an opening: W, the words before and after, and its answer; and of a value: the session that went in, the value, the words before and after, and its answer
 abbrev pub OpeningSays : Type 1

@@ -3,7 +3,7 @@
 use Rattle.std.specs.Prelude.{cond, ◌&&◌, List, [], ◌∷◌, ◌++◌, ℕ, ◌*◌, ◌-◌, max, ℤ, leb, ltb, eqb}
 use Rattle.runs.specs.Runs.{Model}
 use Rattle.history.specs.declared.Position.{Position}
-use Rattle.history.specs.declared.Minimum.{Minimum}
+use Rattle.history.specs.Minimum.{Minimum}
 use Rattle.history.specs.Minima.{present_at, minimum}
 use Rattle.history.specs.Replies.{Told, numbered, accepted, showing, value_refusal, lent_refusal}
 use Rattle.window.specs.declared.Window.{Window}

@@ -1,7 +1,5 @@
 -- `deque::arrive` meets its contract: where the words have room the value's word is given, and the front entry's read.
-use Rattle.std.proofs.Common.{ap, ◌∙◌, arith, rules}
-use Rattle.deque.specs.Words.{unpacked}
-use Rattle.deque.proofs.Packing.{read_back}
+use Rattle.std.proofs.Common.{rules}
 use Rattle.std.proofs.Math.Facts.{to_z-of_z}
 use mir.Syntax.{w32}
 use mir.Val.{SFits}
@@ -10,6 +8,5 @@ use Rattle.deque.proofs.arrive.Goals as goal
 
 pub returns : goal.returns
 returns c =
-    let m = c.args.m in
-    let f : SFits w32 m.value = search rules in
-    arrived (ap unpacked c.pack.ensures ∙ read_back m f (omega arith)) c.unpack.ensures (rw (to_z-of_z f) at c.give.ensures)
+    let f : SFits w32 c.args.m.value = search rules in
+    arrived c.pack.ensures.1 c.unpack.ensures (rw (to_z-of_z f) at c.give.ensures)

@@ -1,7 +1,5 @@
 -- `ranges::close` meets its contract: the lane is chosen by the position, the mark's row is closed there and, where it stands still, in the next lane too, if it was carried.
-use mathlib.Core.Path.{ap}
 use native.Mathlib.Omega.{arith}
-use Rattle.table.specs.Calls.{row_of}
 use Rattle.ranges.proofs.Promises.{long_enough, not_there, close_none, start_kept, close_active, close_still}
 use Rattle.ranges.proofs.close.Goals as goal
 
@@ -11,18 +9,18 @@ returns-then-area-lt32 c = close_none _ _ (λ h first k. absurd (omega (arith, l
 pub returns-in_default : goal.returns-in_default
 returns-in_default c =
     close_none _ _
-    (not_there _ _ _ _ (c.read-e.ensures.own (omega arith)) c.role_of-role.ensures _ c.find-found.ensures (ap row_of c.in_default.is))
+    (not_there _ _ _ _ (c.read-e.ensures.own (omega arith)) c.role_of-role.ensures _ c.find.ensures c.in_default.is)
 
 pub returns-then-area-p : goal.returns-then-area-p
 returns-then-area-p c =
     let own = c.read-e.ensures.own (omega arith) in
-    let at = ap row_of c.in-At.is in
-    close_active _ _ _ _ own c.role_of-role.ensures _ c.find-found.ensures _ at _ c.release.ensures
-    (omega (arith, start_kept _ _ _ _ own c.role_of-role.ensures _ c.find-found.ensures _ at _ c.release.ensures))
+    let at = c.in-Some.is in
+    close_active _ _ _ _ own c.role_of-role.ensures _ c.find.ensures _ at _ c.release.ensures
+    (omega (arith, start_kept _ _ _ _ own c.role_of-role.ensures _ c.find.ensures _ at _ c.release.ensures))
 
 pub returns : goal.returns
 returns c =
     let own = c.read-e.ensures.own (omega arith) in
-    let at = ap row_of c.in-At.is in
-    close_still _ _ _ _ own c.role_of-role.ensures _ c.find-found.ensures _ at _ c.release.ensures _
-    (omega (arith, start_kept _ _ _ _ own c.role_of-role.ensures _ c.find-found.ensures _ at _ c.release.ensures)) c.close_carried.ensures
+    let at = c.in-Some.is in
+    close_still _ _ _ _ own c.role_of-role.ensures _ c.find.ensures _ at _ c.release.ensures _
+    (omega (arith, start_kept _ _ _ _ own c.role_of-role.ensures _ c.find.ensures _ at _ c.release.ensures)) c.close_carried.ensures

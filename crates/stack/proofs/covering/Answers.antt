@@ -1,12 +1,7 @@
-use native.Mathlib.Omega.{arith}
-use Rattle.stack.proofs.Halving.{whole, turn, found}
+-- `stack::covering` meets its contract: the search ends at a run that starts at the row or below it, where the next one does not.
+use mathlib.Core.Path.{refl}
+use Rattle.stack.proofs.Halving.{found}
 use Rattle.stack.proofs.covering.Goals as goal
 
-pub loop-size-init : goal.loop-size-init
-loop-size-init c = whole _ _ _
-
-pub loop-size-preserved : goal.loop-size-preserved
-loop-size-preserved c = turn c.loop-size.invariant (omega arith) c.onward-low.ensures.goes c.onward-low.ensures.stays
-
 pub returns : goal.returns
-returns c = found c.loop-size.invariant (omega arith)
+returns c = let s = c.last_where.ensures in found refl s.within s.here s.behind

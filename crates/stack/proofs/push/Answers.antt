@@ -4,11 +4,11 @@ use Prim.Native.Nat.{ℕ, ◌-◌}
 use native.Mathlib.Omega.{arith}
 use Rattle.stack.proofs.push.Goals as goal
 
-pub returns-then-area-base : goal.returns-then-area-base
-returns-then-area-base c =
-    let height = c.args.height in
+pub returns-then-area-least : goal.returns-then-area-least
+returns-then-area-least c =
+    let height = c.args.e.height in
     record {
       idle = λ f. (refl, refl);
       joins = λ t e q. (refl, refl);
-      raises = λ o f. absurd (f (record { 0 = height.0 - 1 }) (ap (λ (n : ℕ). record { 0 = n }) (omega arith)) (omega arith));
+      raises = λ o f. absurd (f (record { 0 = height.0 - 1 }) (ap (λ (n : ℕ). record { 0 = n }) (omega arith)) (let q = rw c.least.ensures at c.if-area-least.true in omega (arith, q)));
     }

@@ -1,26 +1,21 @@
-use native.Mathlib.Omega.{arith}
+-- `table::by_halves` meets its contract: where the row that is found has another mark than the one sought, no row has that.
 use Rattle.table.specs.Marks.{Live}
 use Rattle.table.proofs.Ordered.{ascending}
-use Rattle.table.proofs.Answers.{no_row, own_row, only_row}
-use Rattle.table.proofs.Halving.{whole, turn, missed}
+use Rattle.table.proofs.Answers.{own_row, only_row}
+use Rattle.table.proofs.Halving.{missed}
 use Rattle.table.proofs.by_halves.Goals as goal
 
-pub loop-size-init : goal.loop-size-init
-loop-size-init c = whole _ _ _ _ c.requires.0
-
-pub loop-size-preserved : goal.loop-size-preserved
-loop-size-preserved c = turn c.loop-size.invariant (omega arith) (omega arith) c.onward-low.ensures
-
-pub returns-then-area-base : goal.returns-then-area-base
-returns-then-area-base c =
+pub returns-then-area-mark : goal.returns-then-area-mark
+returns-then-area-mark c =
     let a = c.args in
-    let l : Live a.area.now a.lane a.rows a.p (record { 0 = c.loop-size.low }) = record { row = omega arith; mark = omega arith } in
+    let l : Live a.area.now a.e.lane a.e.rows a.p (record { 0 = c.last_where.result }) = record { row = c.last_where.ensures.within c.requires.0; mark = rw (← c.mark.ensures, ← c.active_mark-sought.ensures) c.if-area-mark.true } in
     record { sound = own_row l; complete = only_row l }
 
 pub returns : goal.returns
 returns c =
     let a = c.args in
+    let s = c.last_where.ensures in
     record {
-      sound = λ h e. no_row e;
-      complete = λ rising h l. absurd (missed c.loop-size.invariant (omega arith) (λ e. omega arith) (ascending a.area.now a.lane a.rows rising) h.0 l.row l.mark);
+      sound = λ h e. cc;
+      complete = λ rising h l. absurd (missed a.area.now a.e.lane s.within s.here s.behind (λ e. c.if-area-mark.false (rw c.mark.ensures e)) (ascending a.area.now a.e.lane a.e.rows rising) h.0 l.row (rw c.active_mark-sought.ensures l.mark));
     }
