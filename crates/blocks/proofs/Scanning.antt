@@ -3,7 +3,7 @@ use mathlib.Core.Path.{◌≡◌, refl, sym, ap, ◌∙◌}
 use mathlib.Core.Bool.{Bool, true, false, cond}
 use mathlib.Core.List.{List, [], ◌∷◌}
 use mathlib.Core.Logic.{inl, inr}
-use mathlib.Core.Option.{none, some}
+use Rattle.std.specs.Prelude.{None, Some}
 use Prim.Native.Nat.{ℕ, zero, suc, ◌+◌, ◌-◌, ◌<◌, ◌≤◌, max}
 use native.Mathlib.Omega.{arith}
 use lib.IntN.{ℤ, pos}
@@ -77,10 +77,10 @@ module _ (vs : List ℤ) (h : 0 < length vs) where
   ]
 
 -- of no values there is no least, and of some there is
-pub least_none : (vs : List ℤ) → length vs ≡ 0 → least_of vs ≡ none
+pub least_none : (vs : List ℤ) → length vs ≡ 0 → least_of vs ≡ None
 least_none [] e = refl
 least_none (v ∷ vs) e = absurd (omega (arith, e))
 
-pub least_some : (vs : List ℤ) → 0 < length vs → least_of vs ≡ some (minimum_from vs 0).value
+pub least_some : (vs : List ℤ) → 0 < length vs → least_of vs ≡ Some (minimum_from vs 0).value
 least_some [] h = absurd (omega (arith, h))
 least_some (v ∷ vs) h = refl

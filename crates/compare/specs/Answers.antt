@@ -1,15 +1,7 @@
 -- Whether a session "comes back equal", and whether a command was accepted. Document 01, "Replies in checking order".
 use Rattle.std.specs.Prelude.{◌≡◌, Bool, true, false, cond, ℕ, eqb}
-use Rattle.history.specs.declared.Standing.{Standing}
 use Rattle.history.specs.declared.Session.{Session}
 use Rattle.history.specs.Replies.{Told}
-
--- "standing, which is one of none, unmarked, marked, or closed": a number of its own for each
-abbrev pub standing_number : Standing → ℕ
-standing_number Standing.None = 0
-standing_number Standing.Unmarked = 1
-standing_number Standing.Marked = 2
-standing_number Standing.Closed = 3
 
 -- "the session comes back equal", or not
 pub record Compared (a b : Session) (r : Bool) : Type 0 where

@@ -3,7 +3,7 @@
 use mathlib.Core.Path.{◌≡◌, refl, ap}
 use mathlib.Core.Bool.{true, false}
 use mathlib.Core.List.{List, [], ◌∷◌}
-use mathlib.Core.Option.{none, some}
+use Rattle.std.specs.Prelude.{None, Some}
 use Prim.Native.Nat.{ℕ, ◌+◌, ◌*◌, ◌-◌, ◌/◌, min, ◌<◌, ◌≤◌}
 use native.Mathlib.Omega.{arith}
 use lib.IntN.{ℤ, pos}
@@ -15,7 +15,7 @@ use Rattle.history.specs.declared.Standing.TheVariants.{Unmarked, Marked, Closed
 use Rattle.history.specs.declared.Session.{Session}
 use Rattle.history.specs.declared.Command.{Command}
 use Rattle.history.specs.declared.Command.TheVariants.{Value, Mark, Query, Close}
-use Rattle.history.specs.declared.Answer.{Answer}
+use Rattle.engine.specs.Answers.{Answer}
 use Rattle.history.specs.Minima.{stands_at, present_at, value_at, last_of, Least}
 use Rattle.history.specs.Replies.{Told, numbered, accepted, showing, told}
 use Rattle.history.specs.Histories.{History, among, opening, model}
@@ -79,7 +79,7 @@ module _ {h : History} {i : Position} {lent left : List ℕ} {a : Told} (p : Rep
   pub eleven_told : among i h.active ≡ false → a ≡ numbered 11
   eleven_told b = let q = p.inactive i refl z l b in λ j. record { number = q.0 j; shown = q.1 j }
 
-  pub shown_least : (m : Minimum) → a.shown ≡ some m → Least h.values i m
+  pub shown_least : (m : Minimum) → a.shown ≡ Some m → Least h.values i m
   shown_least m e = (p.only_least i m refl e).1
 
 -- and of a Mark: full exactly when K are active
@@ -122,7 +122,7 @@ module _ (s : Session) (c : Command) (lent left : List ℕ) (r : Answer) (d : Ca
   pub own_number : (s.words ≡ 0 → ⊥) → length lent ≡ s.words → OwnNumber s c (told r.reply).number
   own_number = (demand_1.numbers s c lent left r d).own
 
-  pub refused_unaltered : ((told r.reply).number ≡ 0 → ⊥) → (left ≡ lent) × (r.session ≡ s) × ((told r.reply).shown ≡ none)
+  pub refused_unaltered : ((told r.reply).number ≡ 0 → ⊥) → (left ≡ lent) × (r.session ≡ s) × ((told r.reply).shown ≡ None)
   refused_unaltered z = demand_1.refused_command s c lent left r d z
 
   pub accepted_fixed : (told r.reply).number ≡ 0 → AnyAcceptance c s lent left r.session (told r.reply)

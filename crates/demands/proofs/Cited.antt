@@ -3,7 +3,7 @@
 use mathlib.Core.Path.{◌≡◌}
 use mathlib.Core.List.{List, [], ◌∷◌, ◌++◌, map}
 use mathlib.Core.Logic.{inl}
-use mathlib.Core.Option.{none, some}
+use Rattle.std.specs.Prelude.{None, Some}
 use Prim.Native.Nat.{ℕ, ◌<◌, ◌≤◌}
 use lib.IntN.{ℤ, pos, negsuc}
 use lib.ListN.{length}
@@ -12,7 +12,7 @@ use Rattle.history.specs.Minimum.{Minimum}
 use Rattle.history.specs.declared.Session.{Session}
 use Rattle.history.specs.declared.Command.{Command}
 use Rattle.history.specs.declared.Command.TheVariants.{Value, Mark, Query, Close}
-use Rattle.history.specs.declared.Answer.{Answer}
+use Rattle.engine.specs.Answers.{Answer}
 use Rattle.history.specs.Minima.{minimum, Least}
 use Rattle.history.specs.Replies.{numbered, number_of}
 use Rattle.history.specs.Histories.{History, session_of, accept, model}
@@ -88,32 +88,32 @@ least_only : (vs : List ℤ) (i : Position) (d e : Minimum) → Least vs i d →
 least_only = minima.least_only
 
 -- the bytes of document 01's examples, both ends of the value range, positions, and every other byte; what is found is written out
-nothing_left : reading_of [] ≡ record { number = none; command = none; used = 0 }
+nothing_left : reading_of [] ≡ record { number = None; command = None; used = 0 }
 nothing_left = readings.nothing_left
 
-unknown_alone : reading_of (5 ∷ []) ≡ record { number = some 2; command = none; used = 0 }
+unknown_alone : reading_of (5 ∷ []) ≡ record { number = Some 2; command = None; used = 0 }
 unknown_alone = readings.unknown_alone
 
 unknown_kind : (kind : ℕ) (behind : List ℕ) → (kind ≡ 1 → ⊥) → (kind ≡ 2 → ⊥) → (kind ≡ 3 → ⊥) → (kind ≡ 4 → ⊥)
-    → reading_of (kind ∷ behind) ≡ record { number = some 2; command = none; used = 0 }
+    → reading_of (kind ∷ behind) ≡ record { number = Some 2; command = None; used = 0 }
 unknown_kind = readings.unknown_kind
 
-one_short : reading_of (3 ∷ 1 ∷ 0 ∷ 0 ∷ []) ≡ record { number = some 3; command = none; used = 0 }
+one_short : reading_of (3 ∷ 1 ∷ 0 ∷ 0 ∷ []) ≡ record { number = Some 3; command = None; used = 0 }
 one_short = readings.one_short
 
-mark_alone : reading_of (2 ∷ []) ≡ record { number = none; command = some Mark; used = 1 }
+mark_alone : reading_of (2 ∷ []) ≡ record { number = None; command = Some Mark; used = 1 }
 mark_alone = readings.mark_alone
 
-least_value : reading_of (1 ∷ 0 ∷ 0 ∷ 0 ∷ 128 ∷ []) ≡ record { number = none; command = some (Value (negsuc 2147483647)); used = 5 }
+least_value : reading_of (1 ∷ 0 ∷ 0 ∷ 0 ∷ 128 ∷ []) ≡ record { number = None; command = Some (Value (negsuc 2147483647)); used = 5 }
 least_value = readings.least
 
-greatest_value : reading_of (1 ∷ 255 ∷ 255 ∷ 255 ∷ 127 ∷ []) ≡ record { number = none; command = some (Value (pos 2147483647)); used = 5 }
+greatest_value : reading_of (1 ∷ 255 ∷ 255 ∷ 255 ∷ 127 ∷ []) ≡ record { number = None; command = Some (Value (pos 2147483647)); used = 5 }
 greatest_value = readings.greatest
 
-last_position : reading_of (3 ∷ 255 ∷ 255 ∷ 255 ∷ 255 ∷ []) ≡ record { number = none; command = some (Query (record { 0 = 4294967295 })); used = 5 }
+last_position : reading_of (3 ∷ 255 ∷ 255 ∷ 255 ∷ 255 ∷ []) ≡ record { number = None; command = Some (Query (record { 0 = 4294967295 })); used = 5 }
 last_position = readings.last_position
 
-some_position : reading_of (4 ∷ 4 ∷ 3 ∷ 2 ∷ 1 ∷ []) ≡ record { number = none; command = some (Close (record { 0 = 16909060 })); used = 5 }
+some_position : reading_of (4 ∷ 4 ∷ 3 ∷ 2 ∷ 1 ∷ []) ≡ record { number = None; command = Some (Close (record { 0 = 16909060 })); used = 5 }
 some_position = readings.some_position
 
 -- the stream program's whole output, of document 01's example and of the other endings

@@ -4,7 +4,7 @@ use mathlib.Core.List.{List}
 use Prim.Native.Nat.{ℕ}
 use lib.ListN.{length}
 use Rattle.history.specs.declared.Session.{Session}
-use Rattle.history.specs.declared.Answer.{Answer}
+use Rattle.engine.specs.Answers.{Answer}
 use Rattle.history.specs.Minima.{lowest}
 use Rattle.history.specs.Histories.{History, session_of, opening, model}
 use Rattle.runs.specs.Runs.{Made, EachCall, AllAgree}

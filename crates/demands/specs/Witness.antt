@@ -7,7 +7,7 @@ use Rattle.history.specs.declared.Standing.TheVariants.{Closed}
 use Rattle.history.specs.declared.Session.{Session}
 use Rattle.history.specs.declared.Command.{Command}
 use Rattle.history.specs.declared.Command.TheVariants.{Value, Mark, Query, Close}
-use Rattle.history.specs.declared.Answer.{Answer}
+use Rattle.engine.specs.Answers.{Answer}
 use Rattle.history.specs.Minima.{stands_at}
 use Rattle.history.specs.Replies.{numbered, accepted, showing, told}
 use Rattle.history.specs.Histories.{opening, model}

@@ -3,26 +3,24 @@ use mathlib.Core.Path.{◌≡◌, refl, sym, ap, ◌∙◌, subst}
 use mathlib.Core.Bool.{true, false}
 use mathlib.Core.List.{List, [], ◌∷◌, ◌++◌}
 use mathlib.Core.Logic.{◌⊎◌, inl, inr, ⊎_elim}
-use Prim.Native.Nat.{ℕ, suc, ◌+◌, ◌*◌, ◌-◌, ◌<◌, ◌≤◌}
+use Prim.Native.Nat.{ℕ, suc, ◌+◌, ◌-◌, ◌<◌, ◌≤◌}
 use native.Mathlib.Nat.{eq-or-lt_of_le, eq-zero-or-pos}
 use native.Mathlib.Omega.{arith}
-use lib.Dec.{leb}
 use lib.IntN.{ℤ}
 use lib.ListN.{length, get_or, set, length-set, length-append}
 use lib.Seq.{get_or-set_same, get_or-set_other}
 use borrow.Author.Tests.{leb-true, leb-false}
+use Rattle.std.specs.Prelude.{Option, Some, None}
 use Rattle.history.specs.declared.Position.{Position}
 use Rattle.history.specs.Minimum.{Minimum}
 use Rattle.history.specs.Minima.{stands_at, next, present_at, minimum}
 use Rattle.deque.specs.Suffixes.{start_of, SuffixMinima}
 use Rattle.packing.specs.Packing.{place_in, unpacked}
-use Rattle.deque.specs.Words.{front, count, entry_word, entry_at, Twice, Room, Holds}
-use Rattle.deque.specs.Calls.{Cleared, Boundary, SlotAfter, Alone, Repeated, Put, Comes, Given, Arrived}
+use Rattle.deque.specs.Words.{front, count, entry_word, entry_at, Twice, Holds}
+use Rattle.deque.specs.declared.Ring.{Ring}
+use Rattle.deque.specs.Calls.{Cleared, SlotAfter, Alone, Put, Comes, Given, Arrived}
+use Rattle.deque.specs.Left.{gone, Rest, Stayed, NoneStayed, Left}
 use Rattle.deque.proofs.Suffixes.{none_yet, from, few, leaves, stays, comes}
-
--- no words, no room
-pub uncleared : (w : List ℕ) → length w ≤ 0 → Cleared w w
-uncleared w l = record { long = refl; kept = λ i z. refl; holds = λ slots r. absurd (omega (arith, r.wide, r.some)) }
 
 -- word 0 is 0, and so is the number of entries
 pub cleared : (w : List ℕ) → 0 < length w → Cleared w (set w 0 0)
@@ -39,52 +37,6 @@ cleared w l =
         twice = λ k l. absurd (omega (arith, h));
       };
     }
-
--- the words of an entry that is the only one
-pub alone_words : (w : List ℕ) (word : ℕ) → 1 < length w → Alone w (set (set w 1 word) 0 1) word word
-alone_words w word l = record {
-  long = simp length-set;
-  head = get_or-set_same (set w 1 word) 0 1 0 (simp length-set (omega arith));
-  new = get_or-set_other (set w 1 word) 0 1 1 0 (λ e. omega arith) ∙ get_or-set_same w 1 word 0 l;
-  kept = λ i z. get_or-set_other (set w 1 word) 0 i 1 0 (λ e. omega arith) ∙ get_or-set_other w 1 i word 0 (λ e. omega arith);
-  returns = refl;
-}
-
--- a word that stands once more, and one that is within the slots
-pub repeated : (w : List ℕ) (slots at word : ℕ) → at < length w → slots < at → Repeated w (set w (at - slots) word) slots at word
-repeated w slots at word l b = record {
-  long = simp length-set;
-  again = λ _. get_or-set_same w (at - slots) word 0 (omega arith);
-  kept = λ i n. get_or-set_other w (at - slots) i word 0 (n b);
-}
-
-pub unrepeated : (w : List ℕ) (slots at word : ℕ) → at ≤ slots → Repeated w w slots at word
-unrepeated w slots at word l = record { long = refl; again = λ b. absurd (omega arith); kept = λ i n. refl }
-
--- the words of an entry that is put behind others
-pub put_words : (w u : List ℕ) (slots front count : ℕ) (later : ℤ) (word k : ℕ) → 2 * slots ≤ length w → front < slots → k < slots → Boundary w front count later k
-    → Repeated (set w (1 + front + k) word) u slots (1 + front + k) word
-    → let v : List ℕ = set u 0 (front * 65536 + k + 1) in Put w v slots front count later word (get_or v (1 + front) 0)
-put_words w u slots front count later word k wide f b found q =
-    let head : ℕ = front * 65536 + k + 1 in
-    let place : ℕ = 1 + front + k in
-    let long : length u ≡ length w = q.long ∙ length-set w place word in
-    record {
-      k = k;
-      found = found;
-      long = length-set u 0 head ∙ long;
-      head = get_or-set_same u 0 head 0 (omega arith);
-      new = get_or-set_other u 0 place head 0 (λ e. omega arith) ∙ q.kept place (λ x y. omega arith) ∙ get_or-set_same w place word 0 (omega arith);
-      again = λ l. get_or-set_other u 0 (place - slots) head 0 (λ e. omega arith) ∙ q.again (omega arith);
-      kept = λ i z n m. get_or-set_other u 0 i head 0 (λ e. omega arith) ∙ q.kept i (λ x y. m (omega arith) y) ∙ get_or-set_other w place i word 0 n;
-      returns = refl;
-    }
-
--- what is left of the suffix minima, from a front on, once those before the oldest position have left
-pub record Stayed (w : List ℕ) (slots : ℕ) (values : List ℤ) (oldest : Position) (front count : ℕ) : Type 0 where
-  pub slot : front < slots
-  pub holds : SuffixMinima values oldest count (entry_at w front)
-  pub twice : Twice w slots front count
 
 -- a value comes to words that hold the suffix minima from position i on
 module _ {w : List ℕ} {slots : ℕ} {values : List ℤ} {i oldest place : Position} (q : Holds w slots values i) (c : Comes values i oldest slots place) where
@@ -201,61 +153,61 @@ module _ {w : List ℕ} {slots : ℕ} {values : List ℤ} {i oldest place : Posi
         ap unpacked (a.returns ∙ ap (λ (x : ℕ). get_or v x 0) (omega arith)) ∙ m.minima 0 (omega (arith, n)),
       )
 
--- f and n are the front and the number of the entries that are left: the front entry is gone, where it has to leave, and others are left; or all are
-abbrev pub Rest : List ℕ → (slots : ℕ) → Position → (f n : ℕ) → Type 0
-Rest w slots place f n =
-    ((leb (place_in (entry_word w (front w) 0) + slots) place.0 ≡ true) × (n + 1 ≡ count w) × SlotAfter slots (front w) f)
-    ⊎ ((leb (place_in (entry_word w (front w) 0) + slots) place.0 ≡ false) × (f ≡ front w) × (n ≡ count w))
+-- WHAT IS LEFT of the header's entries
+module _ {w : List ℕ} {slots : ℕ} {place : Position} where
+  -- the only entry is gone, or there was none
+  none_left : (gone w slots (front w) place ≡ true) × (count w ≤ 1) → {values : List ℤ} {i oldest : Position} → Holds w slots values i → Comes values i oldest slots place
+      → NoneStayed values oldest
+  none_left (g, l) {values} {i} q c = elim (eq-zero-or-pos (count w)) [
+    | inl z ↦ (entry_at w (front w), rw (none_moves q c z) (subst (λ (n : ℕ). SuffixMinima values i n (entry_at w (front w))) z q.holds))
+    | inr z ↦ let x = leaves_next q c (leb-true _ _ g) z in
+        ((λ k. entry_at w (front w) (suc k)), rw x.0 (leaves q.holds (λ k. entry_at w (front w) (suc k)) 0 (λ k l. refl) (omega arith) x.1))
+  ]
 
-pub rest_slot : (w : List ℕ) (slots : ℕ) (place : Position) (f n : ℕ) → 0 < slots → front w < slots → Rest w slots place f n → f < slots
-rest_slot w slots place f n some l (inl (g, e, inl (a, b))) = b
-rest_slot w slots place f n some l (inl (g, e, inr (a, b))) = omega (arith, a)
-rest_slot w slots place f n some l (inr (g, e, o)) = omega (arith, e)
+  -- all but the front entry are left, or all
+  some_left : {f n : ℕ} → ((gone w slots (front w) place ≡ true) × (n + 1 ≡ count w) × SlotAfter slots (front w) f) ⊎ ((gone w slots (front w) place ≡ false) × (f ≡ front w) × (n ≡ count w))
+      → {values : List ℤ} {i oldest : Position} → Holds w slots values i → Comes values i oldest slots place → Stayed w slots values oldest f n
+  some_left (inl (g, e, a)) q c = left q c (leb-true _ _ g) (omega (arith, e)) e a
+  some_left (inr (g, e, n)) q c = rw (e, n) (stayed q c (leb-false _ _ g))
 
-rest_stayed : {w : List ℕ} {slots : ℕ} {values : List ℤ} {i oldest place : Position} {f n : ℕ} → Rest w slots place f n → Holds w slots values i → Comes values i oldest slots place
-    → Stayed w slots values oldest f n
-rest_stayed (inl (g, e, a)) q c = left q c (leb-true _ _ g) (omega (arith, e)) e a
-rest_stayed (inr (g, e, n)) q c = rw (e, n) (stayed q c (leb-false _ _ g))
+  module _ {r : Option Ring} (rest : Rest w slots (front w) (count w) place r) where
+    pub left_none : r ≡ None → {s : Option Ring} → s ≡ None → Left w slots place s
+    left_none e z = rw z (record { none = λ _ values i oldest q c. none_left (rest.none e) q c; some = λ ring x. cc })
 
--- THE VALUE IS GIVEN: its word is that of the only entry, where the header cannot be the deque's or the only entry has left; else it is put behind others
-module _ {w v : List ℕ} {slots : ℕ} {later : ℤ} {place : Position} {word r : ℕ} (some : 0 < slots) where
-  -- the words hold no deque, which no more entries than slots have
-  pub given_foreign : ((values : List ℤ) (i oldest : Position) → Holds w slots values i → Comes values i oldest slots place → ⊥) → Alone w v word r → Given w v slots later place word r
-  given_foreign n a = record {
+    module _ (ring : Ring) (e : r ≡ Some ring) where
+      -- there are as many as slots: the words hold no deque
+      pub left_full : slots ≤ ring.count → Left w slots place None
+      left_full l = record {
+        none = λ _ values i oldest q c. absurd (omega (arith, few (some_left (rest.some ring e).1 q c).holds, at q c, c.wide));
+        some = λ ring x. cc;
+      }
+
+      pub left_some : ring.count < slots → Left w slots place (Some ring)
+      left_some l = record {
+        none = λ x. cc;
+        some = λ other x. let same : ring ≡ other = cc in rw (← same) ((rest.some ring e).0, l, λ values i oldest q c. some_left (rest.some ring e).1 q c);
+      }
+
+-- THE VALUE IS GIVEN: its word is that of the only entry, where none is left; else it is put behind others
+module _ {w v : List ℕ} {slots : ℕ} {later : ℤ} {place : Position} {word r : ℕ} (some : 0 < slots) {left : Option Ring} (l : Left w slots place left) where
+  pub given_alone : left ≡ None → Alone w v word r → Given w v slots later place word r
+  given_alone e a = record {
     long = a.long;
     kept = λ i l. a.kept i (omega arith);
-    arrives = λ values i oldest q c u. absurd (n values i oldest q c);
+    arrives = λ values i oldest q c u. let x = l.none e values i oldest q c in alone_holds q c word u x.0 x.1 a;
   }
 
-  -- the only entry has left, if there was one
-  pub given_last : place_in (entry_word w (front w) 0) + slots ≤ place.0 → count w ≤ 1 → Alone w v word r → Given w v slots later place word r
-  given_last b l a = record {
-    long = a.long;
-    kept = λ i l. a.kept i (omega arith);
-    arrives = λ values i oldest q c u. elim (eq-zero-or-pos (count w)) [
-      | inl z ↦ alone_holds q c word u (entry_at w (front w)) (rw (none_moves q c z) (subst (λ (n : ℕ). SuffixMinima values i n (entry_at w (front w))) z q.holds)) a
-      | inr z ↦ let x = leaves_next q c b z in
-          alone_holds q c word u (λ k. entry_at w (front w) (suc k)) (rw x.0 (leaves q.holds (λ k. entry_at w (front w) (suc k)) 0 (λ k l. refl) (omega arith) x.1)) a
-    ];
-  }
+  pub given_put : (rest : Ring) → left ≡ Some rest → Put w v rest.slots rest.front rest.count later word r → Given w v slots later place word r
+  given_put rest e b =
+      let x = l.some rest e in
+      let slot : rest.front < slots = omega (arith, rest.within, x.0) in
+      let a : Put w v slots rest.front rest.count later word r = rw x.0 at b in
+      record {
+        long = a.long;
+        kept = λ i b. a.kept i (omega arith) (λ y. omega (arith, slot, a.found.within)) (λ y z. omega (arith, slot, a.found.within));
+        arrives = λ values i oldest q c u. put_holds q c word u (x.2 values i oldest q c) x.1 a;
+      }
 
-  module _ {f n : ℕ} (l : front w < slots) (x : Rest w slots place f n) where
-    -- there are as many left as slots
-    pub given_full : slots ≤ n → Alone w v word r → Given w v slots later place word r
-    given_full e = given_foreign (λ values i oldest q c. omega (arith, few (rest_stayed x q c).holds, at q c, c.wide))
-
-    -- it is put behind those that are left
-    pub given_put : n < slots → Put w v slots f n later word r → Given w v slots later place word r
-    given_put e a = let slot = rest_slot w slots place f n some l x in record {
-      long = a.long;
-      kept = λ i b. a.kept i (omega arith) (λ y. omega (arith, slot, a.found.within)) (λ y z. omega (arith, slot, a.found.within));
-      arrives = λ values i oldest q c u. put_holds q c word u (rest_stayed x q c) e a;
-    }
-
--- words that have no room hold no deque, and are left as they are
-pub unarrived : (w : List ℕ) (slots : ℕ) (m : Minimum) → (Room w slots → ⊥) → Arrived w w slots m m
-unarrived w slots m n = record { long = refl; kept = λ i l. refl; arrives = λ values i oldest q. absurd (n q.room) }
-
--- and in others the value's word is given
+-- in words that have room the value's word is given
 pub arrived : {w v : List ℕ} {slots : ℕ} {m f : Minimum} {word r : ℕ} → unpacked word ≡ m → f ≡ unpacked r → Given w v slots m.value m.place word r → Arrived w v slots m f
 arrived u e g = record { long = g.long; kept = g.kept; arrives = λ values i oldest q c. let x = g.arrives values i oldest q c u in (x.0, e ∙ x.1) }

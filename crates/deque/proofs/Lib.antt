@@ -1,3 +1,2 @@
 pub mod Suffixes
-pub mod Searching
 pub mod Arriving

@@ -1,3 +1,4 @@
 pub mod Suffixes
 pub mod Words
 pub mod Calls
+pub mod Left

@@ -6,7 +6,7 @@
 ghost use Rattle.std.specs.Prelude.{◌≡◌, ◌+◌, ◌*◌, ◌<◌, ◌≤◌, leb, length};
 ghost use Rattle.history.specs.Minima.{takes_over};
 ghost use Rattle.packing.specs.Packing.{value_in, place_in};
-ghost use Rattle.deque.specs.Words.{entry_word};
+ghost use Rattle.deque.specs.Words.{entry_word, entry_at};
 ghost use Rattle.deque.specs.Calls.{Cleared, Boundary, SlotAfter, Alone, Repeated, Put, Given, Arrived};
 
 use history::{Minimum, Position};
@@ -14,7 +14,7 @@ use history::{Minimum, Position};
 // The most slots that a deque has.
 pub const MOST_SLOTS: usize = 4096;
 
-// How many entries are tried one by one, before the search goes on by halves.
+// How many entries are tried one by one, from the last one down, before the search goes on by halves: mostly few are taken over.
 const NEAR: usize = 8;
 
 // Whether a later value takes over from an entry: the choice among equal values, and the one comparison of values. Their words are ordered as they are.
@@ -33,62 +33,105 @@ pub fn clear(area: &mut [u64])
     }
 }
 
-// The first of n entries that a value takes over, or n where it takes over none: a search by halves.
-fn halved(area: &[u64], front: usize, n: usize, v: i32) -> usize
-    requires { (front < 4096) × (n < 4096) × (front + n < length area.now) }
-    ensures { Boundary area.now front n v result }
-{
-    let mut low = 0;
-    let mut high = n;
-    while low < high {
-        let middle = (low + high) / 2;
-        if takes_over(v, area[1 + front + middle]) {
-            high = middle;
-        } else {
-            low = middle + 1;
-        }
-    }
-    low
+// A deque's header: its slots, the slot of the front entry, and how many entries stand from there on. The words stay a parameter beside it, as they are the caller's.
+#[derive(Clone, Copy)]
+struct Ring {
+    slots: usize,
+    front: usize,
+    count: usize,
+    ghost few: { slots ≤ 4096 },
+    ghost within: { front < slots },
 }
 
-// The same, where mostly few are taken over: the last ones are tried one by one, and the search goes by halves where a value takes over all of these.
-fn taken_over(area: &[u64], front: usize, n: usize, v: i32) -> usize
-    requires { (front < 4096) × (n < 4096) × (front + n < length area.now) }
-    ensures { Boundary area.now front n v result }
-{
-    let mut k = n;
-    let mut near = NEAR;
-    while 0 < near {
-        if k == 0 {
-            return k;
-        }
-        if takes_over(v, area[1 + front + (k - 1)]) {
-            k -= 1;
-            near -= 1;
-        } else {
-            return k;
-        }
-    }
-    halved(area, front, k, v)
-}
+impl Ring {
+    ghost use Rattle.deque.specs.Left.{gone, Rest, Left};
 
-// Whether the entry in a slot has to leave: as many positions as there are slots have come since.
-fn is_gone(area: &[u64], slots: usize, front: usize, place: Position) -> bool
-    requires { (slots ≤ 4096) × (slots < length area.now) × (front < slots) }
-    ensures { result ≡ leb (place_in (entry_word area.now front 0) + slots) place.0 }
-{
-    area[1 + front] % 4294967296 + slots as u64 <= place.0 as u64
-}
-
-// The slot behind a slot: after the last one comes the first.
-fn slot_after(slots: usize, front: usize) -> usize
-    requires { (slots ≤ 4096) × (front < slots) }
-    ensures { SlotAfter slots front result }
-{
-    if front + 1 < slots {
-        return front + 1;
+    // Whether the front entry has to leave: as many positions as there are slots have come since.
+    fn is_gone(self, area: &[u64], place: Position) -> bool
+        requires { self.slots < length area.now }
+        ensures { result ≡ gone area.now self.slots self.front place }
+    {
+        area[1 + self.front] % 4294967296 + self.slots as u64 <= place.0 as u64
     }
-    0
+
+    // The slot behind the front's: after the last one comes the first.
+    fn slot_after(self) -> usize
+        ensures { SlotAfter self.slots self.front result }
+    {
+        if self.front + 1 < self.slots {
+            return self.front + 1;
+        }
+        0
+    }
+
+    // Without the front entry, where that has to leave; nothing, where it is the only one.
+    fn without_gone(self, area: &[u64], place: Position) -> Option<Ring>
+        requires { self.slots < length area.now }
+        ensures { Rest area.now self.slots self.front self.count place result }
+    {
+        if !self.is_gone(area, place) {
+            return Some(self);
+        }
+        if self.count <= 1 {
+            return None;
+        }
+        Some(Ring {
+            slots: self.slots,
+            front: self.slot_after(),
+            count: self.count - 1,
+        })
+    }
+
+    // What is left of the entries when one comes at a position. Nothing, where none is, or where the header cannot be the deque's.
+    fn left(area: &[u64], slots: usize, place: Position) -> Option<Ring>
+        requires { (0 < slots) × (slots ≤ 4096) × (slots < length area.now) }
+        ensures { Left area.now slots place result }
+    {
+        let front = (area[0] / 65536) as usize;
+        let count = (area[0] % 65536) as usize;
+        if slots <= front {
+            return None;
+        }
+        let ring = Ring {
+            slots,
+            front,
+            count,
+        }
+        .without_gone(area, place)?;
+        if slots <= ring.count {
+            return None;
+        }
+        Some(ring)
+    }
+
+    // The first of the entries that a value takes over, or how many there are where it takes over none.
+    fn taken_over(self, area: &[u64], v: i32) -> usize
+        requires { (self.count < self.slots) × (2 * self.slots ≤ length area.now) }
+        ensures { Boundary area.now self.front self.count v result }
+    {
+        let front = self.front;
+        halves::first_near_top(
+            self.count,
+            NEAR,
+            |k: usize| -> bool
+                requires { 1 + front + k < length area.now }
+                ensures { result ≡ takes_over v (entry_at area.entry.now front k).value }
+            { takes_over(v, area[1 + front + k]) },
+        )
+    }
+
+    // An entry comes behind those that it does not take over from. What is returned is the front entry then.
+    fn put(self, area: &mut [u64], v: i32, word: u64) -> u64
+        requires { (self.count < self.slots) × (2 * self.slots ≤ length area.old) }
+        ensures { Put area.old area.new self.slots self.front self.count v word result }
+    {
+        let k = self.taken_over(area, v);
+        let at = 1 + self.front + k;
+        area[at] = word;
+        repeat(area, self.slots, at, word);
+        area[0] = (self.front * 65536 + k + 1) as u64;
+        area[1 + self.front]
+    }
 }
 
 // An entry that is the only one.
@@ -111,54 +154,23 @@ fn repeat(area: &mut [u64], slots: usize, at: usize, word: u64)
     }
 }
 
-// An entry comes behind those that it does not take over from. What is returned is the front entry then.
-fn put(area: &mut [u64], slots: usize, front: usize, count: usize, v: i32, word: u64) -> u64
-    requires { (slots ≤ 4096) × (2 * slots ≤ length area.old) × (front < slots) × (count < slots) }
-    ensures { Put area.old area.new slots front count v word result }
-{
-    let k = taken_over(area, front, count, v);
-    let at = 1 + front + k;
-    area[at] = word;
-    repeat(area, slots, at, word);
-    area[0] = (front * 65536 + k + 1) as u64;
-    area[1 + front]
-}
-
 // An entry comes, of a value and its position, and the front entry leaves where it is as many positions older as there are slots. A header that cannot be the deque's counts as that of no
 // entries.
 fn give(area: &mut [u64], slots: usize, v: i32, place: Position, word: u64) -> u64
     requires { (0 < slots) × (slots ≤ 4096) × (2 * slots ≤ length area.old) }
     ensures { Given area.old area.new slots v place word result }
 {
-    let mut front = (area[0] / 65536) as usize;
-    let mut count = (area[0] % 65536) as usize;
-    if slots <= front {
-        return alone(area, word);
+    match Ring::left(area, slots, place) {
+        Some(ring) => ring.put(area, v, word),
+        None => alone(area, word),
     }
-    if is_gone(area, slots, front, place) {
-        if count <= 1 {
-            return alone(area, word);
-        }
-        front = slot_after(slots, front);
-        count -= 1;
-    }
-    if slots <= count {
-        return alone(area, word);
-    }
-    put(area, slots, front, count, v, word)
 }
 
 // A value comes at the next position, and the one that is as many positions older as there are slots leaves. What is returned is the least of those that are left.
 pub fn arrive(area: &mut [u64], slots: usize, m: Minimum) -> Minimum
     ensures { Arrived area.old area.new slots m result }
 {
-    if slots == 0 {
-        return m;
-    }
-    if MOST_SLOTS < slots {
-        return m;
-    }
-    if area.len() < 2 * slots {
+    if slots < 1 || MOST_SLOTS < slots || area.len() < 2 * slots {
         return m;
     }
     let place = m.place;

@@ -2,7 +2,7 @@
 -- position that they do not hold is not active, and one that they hold is, with its range minimum. A Close of it leaves the marks without it, and the count with one less.
 use mathlib.Core.Path.{◌≡◌, refl, sym, ap, subst, ◌∙◌}
 use mathlib.Core.List.{List, [], ◌∷◌}
-use mathlib.Core.Option.{none, some}
+use Rattle.std.specs.Prelude.{Option, None, Some, Ok, ok_or}
 use mathlib.Core.Bool.{Bool, true, false, cond, false≢true}
 use Prim.Native.Nat.{ℕ, ◌-◌, ◌<◌, ◌≤◌}
 use native.Mathlib.Omega.{arith}
@@ -13,7 +13,6 @@ use Rattle.history.specs.declared.Session.{Session}
 use Rattle.history.specs.declared.Command.{Command}
 use Rattle.history.specs.declared.Command.TheVariants.{Query, Close}
 use Rattle.history.specs.declared.Refusal.TheVariants.{NotActive}
-use Rattle.history.specs.declared.Reply.TheVariants.{Lowest}
 use Rattle.history.specs.Minima.{stands_at, minimum}
 use Rattle.history.specs.Replies.{showing, refusal}
 use Rattle.history.specs.Standings.{event_of, transition_of}
@@ -21,11 +20,10 @@ use Rattle.history.specs.Histories.{History, among, is_active}
 use Rattle.laws.proofs.Tests.{refuted}
 use Rattle.history.proofs.Steps.{refusal_own}
 use Rattle.history.proofs.Soundness.{rising_among, struck_one}
-use Rattle.ranges.specs.declared.Lowest.{Lowest as Shown}
 use Rattle.ranges.specs.Holding.{Holds}
-use Rattle.ranges.specs.Calls.{minimum_of, LookedUp, Closed}
+use Rattle.ranges.specs.Calls.{LookedUp, Closed}
 use Rattle.engine.specs.Calls.{Does}
-use Rattle.engine.specs.Private.{refused_with, accepted_with}
+use Rattle.engine.specs.Private.{refused_with, accepted_with, shown as outcome}
 use Rattle.engine.proofs.Doing.{ForEach, does_refused, does_accepted, own_of}
 
 -- a command that names a position: a Query or a Close
@@ -58,25 +56,25 @@ module _ (s : Session) (w : List ℕ) (i : Position) (z : s.words ≡ 0 → ⊥)
       f m.0 (omega (arith, ap (λ (x : Session). x.present.0) t.session, m.1))))
 
   -- A QUERY of a position that can be active
-  module _ (r : Shown) (q : LookedUp w i r) where
-    shown : (h : History) (first : List ℕ) → Holds h first w → minimum_of r ≡ cond (among i h.active) (some (minimum h.values i)) none
+  module _ (r : Option Minimum) (q : LookedUp w i r) where
+    shown : (h : History) (first : List ℕ) → Holds h first w → r ≡ cond (among i h.active) (Some (minimum h.values i)) None
     shown h first k = q.holds h first k
 
     -- nothing is shown of a position that is active
-    pub query_lost : minimum_of r ≡ none → Does s (Query i) w w (refused_with s NotActive)
+    pub query_lost : r ≡ None → Does s (Query i) w w (refused_with s NotActive)
     query_lost e = inactive (Query i) a_query (λ h first _ t.
         refuted (among i h.active) (λ a.
-        let f : none ≡ some (minimum h.values i) =
-        sym e ∙ shown h first (own_of (Query i) s w z o t) ∙ ap (λ (b : Bool). cond b (some (minimum h.values i)) none) a in
+        let f : None ≡ Some (minimum h.values i) =
+        sym e ∙ shown h first (own_of (Query i) s w z o t) ∙ ap (λ (b : Bool). cond b (Some (minimum h.values i)) None) a in
         let y : ◌≡◌ {A = ℕ} 0 1 = cc in omega arith))
 
-    module _ (m : Minimum) (e : minimum_of r ≡ some m) where
+    module _ (m : Minimum) (e : r ≡ Some m) where
       -- and of one that is not nothing
-      is_shown : (b : Bool) (d : Minimum) → some m ≡ cond b (some d) none → (b ≡ true) × (m ≡ d)
+      is_shown : (b : Bool) (d : Minimum) → Some m ≡ cond b (Some d) None → (b ≡ true) × (m ≡ d)
       is_shown true d f = (refl, cc)
       is_shown false d f = absurd (let y : ◌≡◌ {A = ℕ} 0 1 = cc in omega arith)
 
-      pub query_done : 0 < i.0 → i.0 ≤ s.present.0 → Does s (Query i) w w (record { reply = Lowest m; session = s })
+      pub query_done : 0 < i.0 → i.0 ≤ s.present.0 → Does s (Query i) w w (record { reply = Ok (Some m); session = s })
       query_done l b =
           does_accepted (Query i) s w true (λ _. (l, b)) refl (due_to (Query i) a_query true)
           (record { counted = 0; found = m; tells = refl; session = refl; unaltered = refl })
@@ -84,6 +82,14 @@ module _ (s : Session) (w : List ℕ) (i : Position) (z : s.words ≡ 0 → ⊥)
           let k = own_of (Query i) s w z o t in
           let x = is_shown (among i h.active) (minimum h.values i) (sym e ∙ shown h first k) in
           (due_to (Query i) a_query (is_active h (Query i)) ∙ ap (λ (c : Bool). cond c 0 11) x.0, ap showing x.1, refl, k))
+
+    -- so what is found is what a Query is told
+    pub query_found : 0 < i.0 → i.0 ≤ s.present.0 → Does s (Query i) w w (outcome s (ok_or r NotActive))
+    query_found l b = query_cases r refl
+      where
+        query_cases : (x : Option Minimum) → r ≡ x → Does s (Query i) w w (outcome s (ok_or x NotActive))
+        query_cases None e = query_lost e
+        query_cases (Some m) e = query_done m e l b
 
   -- A CLOSE where the session counts no active marks: no history's session has an active one then
   pub close_empty : s.active ≡ 0 → Does s (Close i) w w (refused_with s NotActive)

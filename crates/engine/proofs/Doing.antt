@@ -14,13 +14,13 @@ use Rattle.history.specs.declared.Session.{Session}
 use Rattle.history.specs.declared.Command.{Command}
 use Rattle.history.specs.declared.Command.TheVariants.{Mark}
 use Rattle.history.specs.declared.Refusal.{Refusal}
-use Rattle.history.specs.declared.Refusal.TheVariants.{Unopened, OtherLength, Full}
-use Rattle.history.specs.declared.Answer.{Answer}
-use Rattle.history.specs.Replies.{numbered, number_of, told, refusal}
+use Rattle.history.specs.declared.Refusal.TheVariants.{Full}
+use Rattle.engine.specs.Answers.{Answer}
+use Rattle.history.specs.Replies.{numbered, number_of, told, own_refusal, lent_refusal, refusal}
 use Rattle.history.specs.Histories.{History, session_of, is_active, accept, refusal_of, step}
 use Rattle.history.specs.Sessions.{count_after, session_after}
 use Rattle.history.specs.Sound.{Sound}
-use Rattle.history.proofs.Steps.{some_number, refusal_unopened, refusal_other, refused, step-refused, step_accepted}
+use Rattle.history.proofs.Steps.{some_number, lent_due, lent_none, refused, step-refused, step_accepted}
 use Rattle.history.proofs.Following.{session_follows}
 use Rattle.engine.specs.Promises.{AfterAcceptance, Possible}
 use Rattle.ranges.specs.Holding.{Holds}
@@ -31,6 +31,10 @@ use Rattle.engine.specs.Private.{refused_with, accepted_with}
 -- what is to be shown of every history that the session and the words represent
 abbrev pub ForEach : Session → List ℕ → (History → List ℕ → Type 0) → Type 0
 ForEach s w P = (h : History) (first : List ℕ) → Sound h → Represents h first s w → P h first
+
+-- where the lengths refuse nothing, the session is opened and the words are as many
+pub opened : (words n : ℕ) → 0 ≡ lent_refusal words n 0 → (words ≡ 0 → ⊥) × (n ≡ words)
+opened words n e = let l = lent_none words n 0 (sym e) in (l.0, l.1)
 
 module _ (c : Command) (s : Session) (w : List ℕ) where
   -- what the bookkeeper finds due is the refusal of the session
@@ -60,11 +64,9 @@ module _ (c : Command) (s : Session) (w : List ℕ) where
   pub does_due : (k : Refusal) → ((b : Bool) → refusal s (length w) b c ≡ number_of k) → Does s c w w (refused_with s k)
   does_due k e = does_refused k false (λ x. absurd (false≢true x)) (e false) (λ h first q r. e (is_active h c))
 
-  pub does_unopened : s.words ≡ 0 → Does s c w w (refused_with s Unopened)
-  does_unopened z = does_due Unopened (λ b. refusal_unopened s (length w) b c z)
-
-  pub does_other : (s.words ≡ 0 → ⊥) → (length w ≡ s.words → ⊥) → Does s c w w (refused_with s OtherLength)
-  does_other z o = does_due OtherLength (λ b. refusal_other s (length w) b c z o)
+  -- by the lengths alone: 4 and 5
+  pub does_lent : (k : Refusal) → number_of k ≡ lent_refusal s.words (length w) 0 → Does s c w w (refused_with s k)
+  does_lent k e = does_due k (λ b. lent_due s.words (length w) (own_refusal s b c) (some_number k) (sym e))
 
   -- words of the opened length are the history's
   pub own_of : (s.words ≡ 0 → ⊥) → length w ≡ s.words → {h : History} {first : List ℕ} → Represents h first s w → Holds h first w
@@ -114,7 +116,7 @@ does_full s w m e n = record {
   represents = λ h first q r. absurd (n h first q r);
 }
 
--- an answer that `accept` makes, of parts that are those it should have
-pub does_with : {c : Command} {s : Session} {w after : List ℕ} {r : Answer} {p : Position} {l m : ℤ} {a b : ℕ} {j k : Standing}
-    → r ≡ accepted_with s p l a j → l ≡ m → a ≡ b → j ≡ k → Does s c w after (accepted_with s p m b k) → Does s c w after r
-does_with e l a j d = rw (e, l, a, j) d
+-- an acceptance, of parts that are those it should have
+pub does_with : {c : Command} {s : Session} {w after : List ℕ} {p q : Position} {l m : ℤ} {a b : ℕ} {j k : Standing}
+    → p ≡ q → l ≡ m → a ≡ b → j ≡ k → Does s c w after (accepted_with s q m b k) → Does s c w after (accepted_with s p l a j)
+does_with p l a j d = rw (p, l, a, j) d

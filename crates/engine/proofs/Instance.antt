@@ -9,7 +9,7 @@ use native.Mathlib.Decide.{ℕ_discrete}
 use lib.ListN.{length}
 use Rattle.history.specs.declared.Session.{Session}
 use Rattle.history.specs.declared.Command.{Command}
-use Rattle.history.specs.declared.Answer.{Answer}
+use Rattle.engine.specs.Answers.{Answer}
 use Rattle.history.specs.Replies.{refusal}
 use Rattle.history.specs.Histories.{History, Stepped, session_of, is_active, model}
 use Rattle.history.specs.Sound.{Sound}

@@ -12,8 +12,7 @@ use Rattle.history.specs.declared.Standing.TheVariants.{Unmarked}
 use Rattle.history.specs.declared.Session.{Session}
 use Rattle.history.specs.declared.Command.TheVariants.{Mark}
 use Rattle.history.specs.declared.Event.{Event}
-use Rattle.history.specs.declared.Due.{Due}
-use Rattle.history.specs.declared.Due.TheVariants.{Nothing, Refused}
+use Rattle.std.specs.Prelude.{Option, Some, None}
 use Rattle.history.specs.declared.Transition.{Transition}
 use Rattle.history.specs.declared.Refusal.{Refusal}
 use Rattle.history.specs.declared.Refusal.TheVariants.{Full}
@@ -30,28 +29,28 @@ use Rattle.engine.specs.Private.{refused_with, accepted_with}
 use Rattle.engine.proofs.Doing.{does_due, does_full, does_accepted, own_of}
 
 -- a transition with nothing due allows what comes after it
-pub allowed : {t u : Transition} → t ≡ u → t.due ≡ Nothing → u ≡ allowing t.after
+pub allowed : {t u : Transition} → t ≡ u → t.due ≡ None → u ≡ allowing t.after
 allowed {t} e d = sym e ∙ (λ i. record { due = d i; after = t.after })
 
 module _ (s : Session) (w : List ℕ) (z : s.words ≡ 0 → ⊥) (o : length w ≡ s.words) where
   -- what is due to a Mark goes by what the standing has against it
-  due_by : (d : Due) → (transition_of Event.Mark s.standing).due ≡ d → (b : Bool) → refusal s (length w) b Mark ≡ mark_refusal s d
+  due_by : (d : Option Refusal) → (transition_of Event.Mark s.standing).due ≡ d → (b : Bool) → refusal s (length w) b Mark ≡ mark_refusal s d
   due_by d e b = refusal_own s (length w) b Mark z o ∙ ap (mark_refusal s) e
 
   -- 7, 8 and 9
-  pub mark_refused : (why : Refusal) → (transition_of Event.Mark s.standing).due ≡ Refused why → Does s Mark w w (refused_with s why)
-  mark_refused why e = does_due Mark s w why (due_by (Refused why) e)
+  pub mark_refused : (why : Refusal) → (transition_of Event.Mark s.standing).due ≡ Some why → Does s Mark w w (refused_with s why)
+  mark_refused why e = does_due Mark s w why (due_by (Some why) e)
 
   module _ (after-standing : Standing) (u : transition_of Event.Mark s.standing ≡ allowing after-standing) where
-    free : (transition_of Event.Mark s.standing).due ≡ Nothing
+    free : (transition_of Event.Mark s.standing).due ≡ None
     free = ap (λ (x : Transition). x.due) u
 
     -- 10
     pub mark_full : s.active ≡ s.limit → Does s Mark w w (refused_with s Full)
-    mark_full e = does_due Mark s w Full (λ b. due_by Nothing free b ∙ rw (eq-eqb s.active s.limit e))
+    mark_full e = does_due Mark s w Full (λ b. due_by None free b ∙ rw (eq-eqb s.active s.limit e))
 
     none_due : (s.active ≡ s.limit → ⊥) → (b : Bool) → refusal s (length w) b Mark ≡ 0
-    none_due n b = due_by Nothing free b ∙ ap (λ (t : Bool). cond t 10 0) (ne_eqb s.active s.limit n)
+    none_due n b = due_by None free b ∙ ap (λ (t : Bool). cond t 10 0) (ne_eqb s.active s.limit n)
 
     -- more marks than any opening allows: no history's session
     pub mark_foreign : (s.active ≡ s.limit → ⊥) → 4096 ≤ s.active → Does s Mark w w (refused_with s Full)

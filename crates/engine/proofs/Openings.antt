@@ -6,7 +6,7 @@ use Prim.Native.Nat.{ℕ, ◌<◌, ◌≤◌}
 use native.Mathlib.Omega.{arith}
 use lib.ListN.{length}
 use Rattle.history.specs.declared.Refusal.TheVariants.{AreaTooShort}
-use Rattle.history.specs.declared.Reply.TheVariants.{Accepted}
+use Rattle.std.specs.Prelude.{None, Ok}
 use Rattle.history.specs.Histories.{Stepped, limit_of, blank, session_of}
 use Rattle.history.proofs.Steps.{opening_refused, opening-accepted}
 use Rattle.ranges.specs.Holding.{Holds}
@@ -26,7 +26,7 @@ open_refused w l = record {
 
 -- else the words hold the empty history
 pub open_done : (w v : List ℕ) (n k : ℕ) → 576 ≤ length w → n ≡ length w → k ≡ limit_of (length w) → Opened w v
-    → Opens w v (record { reply = Accepted; session = session_of (blank n k) })
+    → Opens w v (record { reply = Ok None; session = session_of (blank n k) })
 open_done w v n k l o e q =
     let held : Holds (blank (length w) (limit_of (length w))) w v = subst (λ (x : Stepped). Holds x.history w v) (opening-accepted (length w) l) (q.holds l) in
     record {

@@ -9,7 +9,7 @@ use native.Mathlib.Omega.{arith}
 use lib.ListN.{length}
 use Rattle.history.specs.declared.Session.{Session}
 use Rattle.history.specs.declared.Command.{Command}
-use Rattle.history.specs.declared.Answer.{Answer}
+use Rattle.engine.specs.Answers.{Answer}
 use Rattle.history.specs.Replies.{Told, told}
 use Rattle.history.specs.Histories.{History, Stepped, session_of, is_active, opening, refusal_of, step, model}
 use Rattle.history.proofs.Steps.{refusal_unopened, refusal_other, step-refused, step_words, opening_refused, opening-accepted}

@@ -4,7 +4,7 @@ use mathlib.Core.Path.{◌≡◌, refl, sym, ap, ◌∙◌}
 use mathlib.Core.Bool.{Bool, true, false, cond}
 use mathlib.Core.List.{List}
 use mathlib.Core.Logic.{◌⊎◌, inl, inr, ⊎_elim}
-use mathlib.Core.Option.{none}
+use Rattle.std.specs.Prelude.{None}
 use Prim.Native.Nat.{ℕ, ◌<◌, ◌≤◌}
 use native.Mathlib.Omega.{arith}
 use native.Mathlib.Decide.{ℕ_discrete}
@@ -18,7 +18,7 @@ use Rattle.history.specs.declared.Session.{Session}
 use Rattle.history.specs.declared.Command.{Command}
 use Rattle.history.specs.declared.Command.TheVariants.{Value, Mark, Query, Close}
 use Rattle.history.specs.declared.Event.{Event}
-use Rattle.history.specs.declared.Answer.{Answer}
+use Rattle.engine.specs.Answers.{Answer}
 use Rattle.history.specs.Replies.{Told, told, mark_refusal, own_refusal, refusal}
 use Rattle.history.specs.Standings.{transition_of}
 use Rattle.history.specs.Histories.{Stepped, session_of}
@@ -63,7 +63,7 @@ module _ {c : Command} {s : Session} {before after : List ℕ} {t : Session} {a 
       (q.accepts e)
 
   -- a command whose number is not 0 is refused, and alters and shows nothing
-  pub settled_refused : (a.number ≡ 0 → ⊥) → (after ≡ before) × (t ≡ s) × (a.shown ≡ none)
+  pub settled_refused : (a.number ≡ 0 → ⊥) → (after ≡ before) × (t ≡ s) × (a.shown ≡ None)
   settled_refused z = elim (ℕ_discrete due 0) [
     | yes e ↦ ⊎_elim
         (λ (x : AfterAcceptance c s before after t a). absurd (z (ap (λ (y : Told). y.number) x.tells ∙ shows_none c x.found)))

@@ -7,7 +7,7 @@ use native.Mathlib.Omega.{arith}
 use lib.ListN.{length}
 use Rattle.history.specs.declared.Session.{Session}
 use Rattle.history.specs.declared.Command.{Command}
-use Rattle.history.specs.declared.Answer.{Answer}
+use Rattle.engine.specs.Answers.{Answer}
 use Rattle.history.specs.Minima.{minimum}
 use Rattle.history.specs.Replies.{Told, numbered, told}
 use Rattle.history.specs.Histories.{History, Stepped, session_of, blank, opening, step, model}

@@ -10,7 +10,7 @@ use denote.Ref.{MutBor, at_last, as_bor}
 use Rattle.history.specs.declared.Session.{Session}
 use Rattle.history.specs.declared.Command.{Command}
 use Rattle.history.specs.declared.Command.TheVariants.{Value, Mark, Query, Close}
-use Rattle.history.specs.declared.Answer.{Answer}
+use Rattle.engine.specs.Answers.{Answer}
 use Rattle.engine.specs.Demand.{OpeningSays, CommandSays}
 use Rattle.engine.specs.Calls.{Opens, Does}
 use Rattle.engine.proofs.Settling.{query_reads_only}

@@ -1,5 +1,5 @@
 -- The ways out of a Value on an area of the opened length. At the last position it is refused with 6. Else each mark's minimum is lowered by it, as the history's is.
-use mathlib.Core.Path.{◌≡◌, refl, ap, ◌∙◌}
+use mathlib.Core.Path.{◌≡◌, refl, sym, ap, ◌∙◌}
 use mathlib.Core.List.{List}
 use mathlib.Core.Bool.{Bool, false}
 use Prim.Native.Nat.{ℕ}
@@ -9,12 +9,12 @@ use lib.ListN.{length}
 use Rattle.history.specs.declared.Session.{Session}
 use Rattle.history.specs.declared.Command.TheVariants.{Value}
 use Rattle.history.specs.declared.Event.{Event}
-use Rattle.history.specs.declared.Refusal.TheVariants.{LastPosition}
+use Rattle.history.specs.declared.Refusal.{Refusal}
 use Rattle.history.specs.Minima.{stands_at, next}
 use Rattle.history.specs.Standings.{transition_of}
-use Rattle.history.specs.Replies.{refusal}
+use Rattle.history.specs.Replies.{number_of, value_refusal, refusal}
 use Rattle.history.specs.Histories.{History, session_of, is_active, accept}
-use Rattle.history.proofs.Steps.{refusal_own, last_due, earlier_free}
+use Rattle.history.proofs.Steps.{refusal_own, last_due}
 use Rattle.ranges.specs.Holding.{Holds}
 use Rattle.ranges.specs.Calls.{Valued}
 use Rattle.engine.specs.Calls.{Does}
@@ -23,17 +23,20 @@ use Rattle.engine.proofs.Doing.{does_due, does_accepted, own_of}
 
 module _ (s : Session) (w : List ℕ) (v : ℤ) (z : s.words ≡ 0 → ⊥) (o : length w ≡ s.words) where
   -- no position is left
-  pub value_last : s.present.0 ≡ 4294967295 → Does s (Value v) w w (refused_with s LastPosition)
-  value_last e = does_due (Value v) s w LastPosition (λ b. refusal_own s (length w) b (Value v) z o ∙ last_due s.present e)
+  pub value_last : (k : Refusal) → number_of k ≡ value_refusal s.present → Does s (Value v) w w (refused_with s k)
+  value_last k e = does_due (Value v) s w k (λ b. refusal_own s (length w) b (Value v) z o ∙ sym e)
 
   -- the value is the next position's, and each mark's minimum is lowered by it
-  module _ (after : List ℕ) (n : s.present.0 ≡ 4294967295 → ⊥) (q : Valued w after (stands_at v (next s.present))) where
+  module _ (after : List ℕ) (e : value_refusal s.present ≡ 0) (q : Valued w after (stands_at v (next s.present))) where
     none_due : (b : Bool) → refusal s (length w) b (Value v) ≡ 0
-    none_due b = refusal_own s (length w) b (Value v) z o ∙ earlier_free s.present n
+    none_due b = refusal_own s (length w) b (Value v) z o ∙ e
+
+    n : s.present.0 ≡ 4294967295 → ⊥
+    n z = omega (arith, last_due s.present z, e)
 
     holds : (h : History) (first : List ℕ) → s ≡ session_of h → Holds h first w → Holds (accept h (Value v)).history first after
-    holds h first e k =
-        q.holds h first k v (ap (λ (x : Session). stands_at v (next x.present)) e) (omega (arith, n, k.short, ap (λ (x : Session). x.present.0) e))
+    holds h first r k =
+        q.holds h first k v (ap (λ (x : Session). stands_at v (next x.present)) r) (omega (arith, n, k.short, ap (λ (x : Session). x.present.0) r))
 
     pub value_done : Does s (Value v) w after (accepted_with s (next s.present) v s.active (transition_of Event.Value s.standing).after)
     value_done =

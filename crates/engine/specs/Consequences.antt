@@ -1,14 +1,13 @@
 -- What follows from demand 3. Its promises one by one and in plain numbers, for a run of any length; the examples of `history Examples`, which come out in every run of their
 -- commands, on words of any content; and a refused opening, which is followed by replies 4 only.
-use Rattle.std.specs.Prelude.{◌≡◌, true, false, List, [], ◌∷◌, ◌⊎◌, ℕ, ◌+◌, ◌*◌, ◌-◌, ◌<◌, ◌≤◌, pos, length, get_or}
-use Rattle.std.proofs.Math.Option.{none, some}
+use Rattle.std.specs.Prelude.{◌≡◌, true, false, List, [], ◌∷◌, ◌⊎◌, ℕ, ◌+◌, ◌*◌, ◌-◌, ◌<◌, ◌≤◌, pos, length, get_or, None, Some}
 use Rattle.history.specs.declared.Position.{Position}
 use Rattle.history.specs.Minimum.{Minimum}
 use Rattle.history.specs.declared.Standing.TheVariants.{Unmarked}
 use Rattle.history.specs.declared.Session.{Session}
 use Rattle.history.specs.declared.Command.{Command}
 use Rattle.history.specs.declared.Command.TheVariants.{Mark, Query}
-use Rattle.history.specs.declared.Answer.{Answer}
+use Rattle.engine.specs.Answers.{Answer}
 use Rattle.history.specs.Minima.{Least}
 use Rattle.history.specs.Replies.{Told, numbered, told}
 use Rattle.history.specs.Histories.{History, among, opening, step, model}
@@ -53,17 +52,17 @@ pub record Replied (h : History) (c : Command) (lent left : List ℕ) (a : Told)
   pub full : c ≡ Mark → (h.words ≡ 0 → ⊥) → length lent ≡ h.words → h.standing ≡ Unmarked → length h.active ≡ h.limit → a.number ≡ 10
   pub only_full : c ≡ Mark → (h.words ≡ 0 → ⊥) → length lent ≡ h.words → h.standing ≡ Unmarked → a.number ≡ 10 → length h.active ≡ h.limit
   -- "a query on an active tap gets the least value from the tap's position to the present and the place of that value"
-  pub least : (i : Position) → c ≡ Query i → (h.words ≡ 0 → ⊥) → length lent ≡ h.words → among i h.active ≡ true → (m : Minimum) × (a.number ≡ 0) × (a.shown ≡ some m) × Least h.values i m
+  pub least : (i : Position) → c ≡ Query i → (h.words ≡ 0 → ⊥) → length lent ≡ h.words → among i h.active ≡ true → (m : Minimum) × (a.number ≡ 0) × (a.shown ≡ Some m) × Least h.values i m
   -- one on another position gets 11 and is shown nothing
-  pub inactive : (i : Position) → c ≡ Query i → (h.words ≡ 0 → ⊥) → length lent ≡ h.words → among i h.active ≡ false → (a.number ≡ 11) × (a.shown ≡ none)
+  pub inactive : (i : Position) → c ≡ Query i → (h.words ≡ 0 → ⊥) → length lent ≡ h.words → among i h.active ≡ false → (a.number ≡ 11) × (a.shown ≡ None)
   -- and whatever a query is shown is the least since an active mark
-  pub only_least : (i : Position) (m : Minimum) → c ≡ Query i → a.shown ≡ some m → (among i h.active ≡ true) × Least h.values i m
+  pub only_least : (i : Position) (m : Minimum) → c ≡ Query i → a.shown ≡ Some m → (among i h.active ≡ true) × Least h.values i m
 
 -- THE PROMISES OF DEMAND 3, ONE BY ONE: the numbers 1, 4, 5, 10 and, of a Query, 0 and 11 are written out; 6 to 9 and a Close's 11 are those of the bookkeeper's step
 pub record EveryRun (opens : OpeningSays) (says : CommandSays) : Type 0 where
   -- "Opening, with N below 576" gets 1, and another 0
-  pub refuses : (first left : List ℕ) (o : Answer) → opens first left o → length first < 576 → ((told o.reply).number ≡ 1) × ((told o.reply).shown ≡ none)
-  pub accepts : (first left : List ℕ) (o : Answer) → opens first left o → 576 ≤ length first → ((told o.reply).number ≡ 0) × ((told o.reply).shown ≡ none)
+  pub refuses : (first left : List ℕ) (o : Answer) → opens first left o → length first < 576 → ((told o.reply).number ≡ 1) × ((told o.reply).shown ≡ None)
+  pub accepts : (first left : List ℕ) (o : Answer) → opens first left o → 576 ≤ length first → ((told o.reply).number ≡ 0) × ((told o.reply).shown ≡ None)
   -- each list of calls that demand 3 is about reaches a point
   pub reaches : (first left : List ℕ) (o : Answer) (calls : List (Call model)) → let start : History = (opening (length first)).history in opens first left o
       → Made model (Answered says) start.words o.session left calls

@@ -1,13 +1,12 @@
 -- DEMAND 3, one claim over the whole list, with demand 2 in it: "for every list of values, taps, queries and closes, refused ones included, after one opening of any
 -- length on words of any content, with any length lent at each command".
-use Rattle.std.specs.Prelude.{◌≡◌, true, List, ℕ, length}
-use Rattle.std.proofs.Math.Option.{some}
+use Rattle.std.specs.Prelude.{◌≡◌, true, List, ℕ, length, Some}
 use Rattle.history.specs.declared.Position.{Position}
 use Rattle.history.specs.Minimum.{Minimum}
 use Rattle.history.specs.declared.Standing.{Standing}
 use Rattle.history.specs.declared.Session.{Session}
 use Rattle.history.specs.declared.Command.{Command}
-use Rattle.history.specs.declared.Answer.{Answer}
+use Rattle.engine.specs.Answers.{Answer}
 use Rattle.history.specs.Minima.{Least}
 use Rattle.history.specs.Replies.{showing, told}
 use Rattle.history.specs.Histories.{History, among, session_of, opening, model}
@@ -42,7 +41,7 @@ pub record Meets (n : ℕ) (first now : List ℕ) (h later : History) (c : Call 
   pub gets : (i : Position) → c.command ≡ Command.Query i → is_own n c.lent ≡ true → among i h.active ≡ true
       → (m : Minimum) × (c.told ≡ showing m) × Least h.values i m
   -- and whatever a query is shown is the least since an active mark
-  pub shown : (i : Position) (m : Minimum) → c.command ≡ Command.Query i → c.told.shown ≡ some m → (among i h.active ≡ true) × Least h.values i m
+  pub shown : (i : Position) (m : Minimum) → c.command ≡ Command.Query i → c.told.shown ≡ Some m → (among i h.active ≡ true) × Least h.values i m
 
 -- THE CLAIM, where `opens` is known of the opening's function, and `says` of the commands' functions
 abbrev pub Demand3 : OpeningSays → CommandSays → Type 0

@@ -1,3 +1,4 @@
+pub mod Answers
 pub mod Demand
 pub mod Promises
 pub mod Consequences

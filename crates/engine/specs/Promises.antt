@@ -2,8 +2,7 @@
 -- choices have names; then, from AN OPENING on, what it comes to, clause by clause and in plain numbers; last the demand.
 -- Document 01: "With others, one of the listed replies comes back, and what an accepted command then counts as active .. is free too. .. All else a public call hands out, refusals
 -- too, is determined by its promise for every input." A mark is document 01's "tap".
-use Rattle.std.specs.Prelude.{◌≡◌, Bool, true, List, ◌⊎◌, ℕ, ◌+◌, ◌-◌, ◌/◌, min, ◌<◌, ◌≤◌, pos, length, get_or}
-use Rattle.std.proofs.Math.Option.{none, some}
+use Rattle.std.specs.Prelude.{◌≡◌, Bool, true, List, ◌⊎◌, ℕ, ◌+◌, ◌-◌, ◌/◌, min, ◌<◌, ◌≤◌, pos, length, get_or, None, Some}
 use Rattle.history.specs.declared.Position.{Position}
 use Rattle.history.specs.Minimum.{Minimum}
 use Rattle.history.specs.declared.Standing.{Standing}
@@ -11,7 +10,7 @@ use Rattle.history.specs.declared.Standing.TheVariants.{None, Unmarked, Marked, 
 use Rattle.history.specs.declared.Session.{Session}
 use Rattle.history.specs.declared.Command.{Command}
 use Rattle.history.specs.declared.Command.TheVariants.{Value, Mark, Query, Close}
-use Rattle.history.specs.declared.Answer.{Answer}
+use Rattle.engine.specs.Answers.{Answer}
 use Rattle.history.specs.Replies.{Told, numbered, accepted, showing, told, refusal}
 use Rattle.history.specs.Sessions.{session_after}
 use Rattle.engine.specs.Demand.{OpeningSays, CommandSays}
@@ -103,18 +102,18 @@ pub record AnyNumber (s : Session) (c : Command) (lent : List ℕ) (n : ℕ) : T
 
 -- A REFUSAL: "the session comes back equal .. and the area is untouched; .. no value or place is shown"
 abbrev pub AnyRefusal : Session → List ℕ → List ℕ → Session → Told → Type 0
-AnyRefusal s lent left t a = (left ≡ lent) × (t ≡ s) × (a.shown ≡ none)
+AnyRefusal s lent left t a = (left ≡ lent) × (t ≡ s) × (a.shown ≡ None)
 
 -- AN ACCEPTED COMMAND, from the session s to the session t: what stands in t but for the count of active marks, what is shown, and, of a Query, that the words stay
 abbrev pub AnyAcceptance : Command → Session → List ℕ → List ℕ → Session → Told → Type 0
 AnyAcceptance (Value v) s lent left t a =
-    (t.words ≡ s.words) × (t.limit ≡ s.limit) × (t.present.0 ≡ s.present.0 + 1) × (t.last ≡ v) × (t.standing ≡ Unmarked) × (a.shown ≡ none)
+    (t.words ≡ s.words) × (t.limit ≡ s.limit) × (t.present.0 ≡ s.present.0 + 1) × (t.last ≡ v) × (t.standing ≡ Unmarked) × (a.shown ≡ None)
 AnyAcceptance Mark s lent left t a =
-    (t.words ≡ s.words) × (t.limit ≡ s.limit) × (t.present ≡ s.present) × (t.last ≡ s.last) × (t.standing ≡ Marked) × (a.shown ≡ none)
+    (t.words ≡ s.words) × (t.limit ≡ s.limit) × (t.present ≡ s.present) × (t.last ≡ s.last) × (t.standing ≡ Marked) × (a.shown ≡ None)
 AnyAcceptance (Query i) s lent left t a =
-    (t ≡ s) × (left ≡ lent) × (m : Minimum) × (a.shown ≡ some m)
+    (t ≡ s) × (left ≡ lent) × (m : Minimum) × (a.shown ≡ Some m)
 AnyAcceptance (Close i) s lent left t a =
-    (t.words ≡ s.words) × (t.limit ≡ s.limit) × (t.present ≡ s.present) × (t.last ≡ s.last) × (a.shown ≡ none)
+    (t.words ≡ s.words) × (t.limit ≡ s.limit) × (t.present ≡ s.present) × (t.last ≡ s.last) × (a.shown ≡ None)
     × (i.0 ≡ s.present.0 → t.standing ≡ Closed) × ((i.0 ≡ s.present.0 → ⊥) → t.standing ≡ s.standing)
 
 -- THE DEMAND, of every session and every words, whether or not a call returned them. That no word outside the ends is read or written and that each call ends is what

@@ -4,105 +4,81 @@
 
 ghost use Rattle.std.specs.Prelude.{◌≡◌, ◌<◌, length};
 ghost use Rattle.history.specs.declared.Command.TheVariants.{Value, Mark, Query, Close};
-ghost use Rattle.history.specs.declared.Event.{Event};
 ghost use Rattle.history.specs.Minima.{stands_at};
-ghost use Rattle.history.specs.Standings.{allowing, transition_of};
 ghost use Rattle.history.specs.Histories.{limit_of};
 ghost use Rattle.engine.specs.Calls.{Opens, Does};
-ghost use Rattle.engine.specs.Private.{refused_with, accepted_with, Within};
+ghost use Rattle.engine.specs.Private.{answered, shown, Within};
 
-use history::{Answer, Command, Due, Event, Minimum, Position, Refusal, Reply, Session, Standing};
-use ranges::Lowest;
+use history::{Answer, Command, Event, Minimum, Position, Refusal, Session, Standing};
+
+// A session with no opening: all its numbers are 0.
+const UNOPENED: Session = Session {
+    words: 0,
+    limit: 0,
+    present: Position(0),
+    last: 0,
+    active: 0,
+    standing: Standing::None,
+};
 
 // How many marks an area of n words is opened for: K of document 01.
 fn limit_of(n: usize) -> usize
     ensures { result ≡ limit_of n }
 {
-    if n < 512 {
-        return 0;
-    }
-    let k = (n - 512) / 64;
-    if k < layout::MOST_MARKS {
-        return k;
-    }
-    layout::MOST_MARKS
+    (n.saturating_sub(512) / 64).min(layout::MOST_MARKS)
 }
 
-// A refusal: the session comes back equal.
-fn refuse(s: Session, why: Refusal) -> Answer
-    ensures { result ≡ refused_with s why }
+// What is answered where an acceptance leaves a session and shows nothing. After a refusal the session comes back equal.
+fn answered(s: Session, outcome: Result<Session, Refusal>) -> Answer<Session>
+    ensures { result ≡ answered s outcome }
 {
-    Answer {
-        reply: Reply::Refused(why),
-        session: s,
-    }
-}
-
-// An acceptance that shows nothing: N and K stay.
-fn accept(s: Session, present: Position, last: i32, active: usize, standing: Standing) -> Answer
-    ensures { result ≡ accepted_with s present last active standing }
-{
-    Answer {
-        reply: Reply::Accepted,
-        session: Session {
-            words: s.words,
-            limit: s.limit,
-            present,
-            last,
-            active,
-            standing,
+    match outcome {
+        Ok(session) => Answer {
+            reply: Ok(None),
+            session,
+        },
+        Err(why) => Answer {
+            reply: Err(why),
+            session: s,
         },
     }
 }
 
 // An area is opened, whatever its words hold. Only words 0 to 511 are written.
-pub fn open(area: &mut [u64]) -> Answer
+pub fn open(area: &mut [u64]) -> Answer<Session>
     ensures { Opens area.old area.new result }
 {
     let n = area.len();
     if n < 576 {
         return Answer {
-            reply: Reply::Refused(Refusal::AreaTooShort),
-            session: Session {
-                words: 0,
-                limit: 0,
-                present: Position(0),
-                last: 0,
-                active: 0,
-                standing: Standing::None,
-            },
+            reply: Err(Refusal::AreaTooShort),
+            session: UNOPENED,
         };
     }
     ranges::open(area);
     Answer {
-        reply: Reply::Accepted,
+        reply: Ok(None),
         session: Session {
             words: n,
             limit: limit_of(n),
-            present: Position(0),
-            last: 0,
-            active: 0,
-            standing: Standing::None,
+            ..UNOPENED
         },
     }
 }
 
 // The next value of the stream: it lowers each active mark's range minimum that is above it.
-pub fn value(s: Session, area: &mut [u64], v: i32) -> Answer
+pub fn value(s: Session, area: &mut [u64], v: i32) -> Answer<Session>
     ensures { Does s (Value v) area.old area.new result }
 {
-    let words = s.words;
-    if words == 0 {
-        return refuse(s, Refusal::Unopened);
-    }
-    if area.len() != words {
-        return refuse(s, Refusal::OtherLength);
-    }
-    let present = s.present;
-    if present.0 == 4294967295 {
-        return refuse(s, Refusal::LastPosition);
-    }
-    let next = Position(present.0 + 1);
+    answered(s, take_value(s, area, v))
+}
+
+// The session after a value, or why it is refused.
+fn take_value(s: Session, area: &mut [u64], v: i32) -> Result<Session, Refusal>
+    ensures { Does s (Value v) area.old area.new (answered s result) }
+{
+    history::lent(s.words, area.len())?;
+    let next = s.present.next()?;
     ranges::value(
         area,
         Minimum {
@@ -110,129 +86,114 @@ pub fn value(s: Session, area: &mut [u64], v: i32) -> Answer
             place: next,
         },
     );
-    let standing = s.standing;
-    let transition = history::transition_of(Event::Value, standing);
-    let after = transition.after;
-    accept(s, next, v, s.active, after)
+    let transition = history::transition_of(Event::Value, s.standing);
+    Ok(Session {
+        present: next,
+        last: v,
+        standing: transition.after,
+        ..s
+    })
 }
 
 // The range minimum of a mark at the present position: the last value, there.
 fn at_present(s: Session) -> Minimum
     ensures { result ≡ stands_at s.last s.present }
 {
-    let present = s.present;
     Minimum {
         value: s.last,
-        place: present,
+        place: s.present,
     }
-}
-
-// A Mark that the standing has nothing against. Nothing is written before it is known to be accepted.
-fn mark_allowed(s: Session, area: &mut [u64], after: Standing) -> Answer
-    requires { (s.words ≡ 0 → ⊥) × (length area.old ≡ s.words) × (transition_of Event.Mark s.standing ≡ allowing after) }
-    ensures { Does s Mark area.old area.new result }
-{
-    let active = s.active;
-    if active == s.limit {
-        return refuse(s, Refusal::Full);
-    }
-    if layout::MOST_MARKS <= active {
-        return refuse(s, Refusal::Full);
-    }
-    let present = s.present;
-    ranges::mark(area, active, present, at_present(s));
-    accept(s, present, s.last, active + 1, after)
 }
 
 // The present position becomes an active mark.
-pub fn mark(s: Session, area: &mut [u64]) -> Answer
+pub fn mark(s: Session, area: &mut [u64]) -> Answer<Session>
     ensures { Does s Mark area.old area.new result }
 {
-    let words = s.words;
-    if words == 0 {
-        return refuse(s, Refusal::Unopened);
+    answered(s, take_mark(s, area))
+}
+
+// The session after a Mark, or why it is refused. Nothing is written before it is known to be accepted.
+fn take_mark(s: Session, area: &mut [u64]) -> Result<Session, Refusal>
+    ensures { Does s Mark area.old area.new (answered s result) }
+{
+    history::lent(s.words, area.len())?;
+    let transition = history::transition_of(Event::Mark, s.standing);
+    if let Some(why) = transition.due {
+        return Err(why);
     }
-    if area.len() != words {
-        return refuse(s, Refusal::OtherLength);
+    if s.active == s.limit {
+        return Err(Refusal::Full);
     }
-    let standing = s.standing;
-    let transition = history::transition_of(Event::Mark, standing);
-    let due = transition.due;
-    let after = transition.after;
-    match due {
-        Due::Nothing => mark_allowed(s, area, after),
-        Due::Refused(why) => refuse(s, why),
+    if layout::MOST_MARKS <= s.active {
+        return Err(Refusal::Full);
     }
+    ranges::mark(area, s.active, s.present, at_present(s));
+    Ok(Session {
+        active: s.active + 1,
+        standing: transition.after,
+        ..s
+    })
 }
 
 // Whether a position can be an active mark at all: none is before the first or after the present one.
 fn within(s: Session, i: Position) -> bool
     ensures { Within s i result }
 {
-    let present = s.present;
-    if i.0 == 0 {
-        return false;
-    }
-    if present.0 < i.0 {
-        return false;
-    }
-    true
+    Position(0) < i && i <= s.present
 }
 
 // The range minimum since an active mark. The area is only read.
-pub fn query(s: Session, area: &[u64], i: Position) -> Answer
+pub fn query(s: Session, area: &[u64], i: Position) -> Answer<Session>
     ensures { Does s (Query i) area.now area.now result }
 {
-    let words = s.words;
-    if words == 0 {
-        return refuse(s, Refusal::Unopened);
-    }
-    if area.len() != words {
-        return refuse(s, Refusal::OtherLength);
-    }
-    if !within(s, i) {
-        return refuse(s, Refusal::NotActive);
-    }
-    let found = ranges::look_up(area, i);
-    let Lowest::At(minimum) = found else {
-        return refuse(s, Refusal::NotActive);
-    };
     Answer {
-        reply: Reply::Lowest(minimum),
+        reply: find(s, area, i).map(Some),
         session: s,
     }
 }
 
+// The range minimum since an active mark, or why the Query is refused.
+fn find(s: Session, area: &[u64], i: Position) -> Result<Minimum, Refusal>
+    ensures { Does s (Query i) area.now area.now (shown s result) }
+{
+    history::lent(s.words, area.len())?;
+    if !within(s, i) {
+        return Err(Refusal::NotActive);
+    }
+    ranges::look_up(area, i).ok_or(Refusal::NotActive)
+}
+
 // An active mark is forgotten.
-pub fn close(s: Session, area: &mut [u64], i: Position) -> Answer
+pub fn close(s: Session, area: &mut [u64], i: Position) -> Answer<Session>
     ensures { Does s (Close i) area.old area.new result }
 {
-    let words = s.words;
-    if words == 0 {
-        return refuse(s, Refusal::Unopened);
-    }
-    if area.len() != words {
-        return refuse(s, Refusal::OtherLength);
-    }
+    answered(s, take_close(s, area, i))
+}
+
+// The session after a Close, or why it is refused.
+fn take_close(s: Session, area: &mut [u64], i: Position) -> Result<Session, Refusal>
+    ensures { Does s (Close i) area.old area.new (answered s result) }
+{
+    history::lent(s.words, area.len())?;
     if !within(s, i) {
-        return refuse(s, Refusal::NotActive);
+        return Err(Refusal::NotActive);
     }
-    let active = s.active;
-    if active == 0 {
-        return refuse(s, Refusal::NotActive);
+    if s.active == 0 {
+        return Err(Refusal::NotActive);
     }
     if !ranges::close(area, i) {
-        return refuse(s, Refusal::NotActive);
+        return Err(Refusal::NotActive);
     }
-    let present = s.present;
-    let standing = s.standing;
-    let transition = history::transition_of(history::close_event(present, i), standing);
-    let after = transition.after;
-    accept(s, present, s.last, active - 1, after)
+    let transition = history::transition_of(history::close_event(s.present, i), s.standing);
+    Ok(Session {
+        active: s.active - 1,
+        standing: transition.after,
+        ..s
+    })
 }
 
 // Any command.
-pub fn apply(s: Session, area: &mut [u64], command: Command) -> Answer
+pub fn apply(s: Session, area: &mut [u64], command: Command) -> Answer<Session>
     ensures { Does s command area.old area.new result }
 {
     match command {

@@ -1,7 +1,7 @@
 -- A stored take's replies as the numbers that C gets, and what the exported calls promise: each is the take's own call, in numbers. The take and its index cross as they are.
 use Rattle.std.specs.Prelude.{◌≡◌, List, ℕ, ℤ, pos}
 use Rattle.std.proofs.Math.Option.{Option, none, some}
-use Rattle.blocks.specs.declared.Found.{Found}
+use Rattle.blocks.specs.Found.{Found}
 use Rattle.blocks.specs.declared.Reply.{Reply}
 use Rattle.blocks.specs.Takes.{Told, told}
 use Rattle.blocks.specs.Calls.{Builds, Searches}

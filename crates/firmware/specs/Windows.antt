@@ -2,7 +2,7 @@
 use Rattle.std.specs.Prelude.{◌≡◌, List, ℕ, ℤ}
 use Rattle.history.specs.Replies.{Told, told}
 use Rattle.window.specs.declared.Window.{Window}
-use Rattle.window.specs.declared.Answer.{Answer}
+use Rattle.window.specs.Answers.{Answer}
 use Rattle.window.specs.Calls.{Opens, Does}
 use Rattle.firmware.specs.declared.windows.WindowNumbers.{WindowNumbers}
 use Rattle.firmware.specs.declared.windows.WindowOutcome.{WindowOutcome}

@@ -59,6 +59,16 @@ module _ (opened n own : ℕ) where
       ] in
       (z, o, sym (lent_own z o) ∙ e)
 
+-- what is due by the lengths alone is due whatever else would be
+pub lent_due : (opened n own : ℕ) {k : ℕ} → (k ≡ 0 → ⊥) → lent_refusal opened n 0 ≡ k → lent_refusal opened n own ≡ k
+lent_due opened n own {k} some e = elim (ℕ_discrete opened 0) [
+  | yes z ↦ lent_unopened opened n own z ∙ sym (lent_unopened opened n 0 z) ∙ e
+  | no z ↦ elim (ℕ_discrete n opened) [
+    | yes o ↦ absurd (some (sym e ∙ lent_own opened n 0 z o))
+    | no o ↦ lent_other opened n own z o ∙ sym (lent_other opened n 0 z o) ∙ e
+  ]
+]
+
 -- 6, of a value, and none
 pub last_due : (present : Position) → present.0 ≡ 4294967295 → value_refusal present ≡ 6
 last_due present e = rw (eq-eqb present.0 4294967295 e)

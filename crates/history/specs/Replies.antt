@@ -74,10 +74,6 @@ acceptances (t ∷ ts) = cond (eqb t.number 0) 1 0 + acceptances ts
 abbrev pub highest : Position
 highest = record { 0 = 4294967295 }
 
--- "the n-th accepted Value has position n": the position of the next
-abbrev pub following : Position → Position
-following present = record { 0 = present.0 + 1 }
-
 -- 6: "Value, when the present position is 4,294,967,295". A window's values meet it as the engine's do
 abbrev pub value_refusal : Position → ℕ
 value_refusal present = cond (eqb present.0 highest.0) 6 0

@@ -4,7 +4,8 @@
 
 ghost use Rattle.std.specs.Prelude.{◌≡◌, [], ◌∷◌, IfOk};
 ghost use Rattle.history.specs.declared.Command.TheVariants.{Close};
-ghost use Rattle.history.specs.Replies.{number_of, number_told, told, acceptances, value_refusal, lent_refusal, following};
+ghost use Rattle.history.specs.Replies.{number_of, number_told, told, acceptances, value_refusal, lent_refusal};
+ghost use Rattle.history.specs.Minima.{next as next_of};
 ghost use Rattle.history.specs.Standings as Standings;
 ghost use Rattle.history.specs.Standings.{transition_of, event_of};
 ghost use Rattle.history.specs.StateVariable.{by_section_2};
@@ -54,7 +55,7 @@ pub struct Session {
     pub standing: Standing,
 }
 
-// Why a command, an opening or a reading is refused: document 01's list, then document 02's. The number of each is `number`.
+// Why a command, an opening or a reading is refused: document 01's list, then document 02's, in whose order `u8::from` numbers them.
 #[derive(Clone, Copy, PartialEq, Eq)]
 pub enum Refusal {
     AreaTooShort,
@@ -159,7 +160,7 @@ impl Position {
     // The position of the next value, or 6 where this is the highest.
     pub fn next(self) -> Result<Position, Refusal>
         ensures refused { number_told result ≡ value_refusal self }
-        ensures next { IfOk result (λ next. next ≡ following self) }
+        ensures next { IfOk result (λ next. next ≡ next_of self) }
     {
         if self == HIGHEST {
             return Err(Refusal::LastPosition);

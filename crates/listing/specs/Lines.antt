@@ -2,7 +2,7 @@
 -- ends with a line feed, as in the other programs.
 use Rattle.std.specs.Prelude.{cond, List, [], ◌∷◌, ◌++◌, ℕ, ◌-◌, eqb, ℤ, pos, length, get_or}
 use Rattle.std.proofs.Math.Option.{Option, none, some}
-use Rattle.blocks.specs.declared.Found.{Found}
+use Rattle.blocks.specs.Found.{Found}
 use Rattle.blocks.specs.Takes.{Told}
 use Rattle.rough.specs.Looks.{ToldReading}
 use Rattle.text.specs.Writing.{decimal_of}

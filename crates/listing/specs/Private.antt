@@ -2,7 +2,7 @@
 use Rattle.std.specs.Prelude.{◌≡◌, true, false, List, ℕ, ◌+◌, ◌*◌, ◌≤◌, ℤ, length, take}
 use Rattle.std.proofs.Math.Option.{Option, none, some}
 use Rattle.io.specs.Counts.{IsPrefixLen}
-use Rattle.blocks.specs.declared.Found.{Found}
+use Rattle.blocks.specs.Found.{Found}
 use Rattle.text.specs.Writing.{Adds}
 use Rattle.listing.specs.declared.Request.{Request}
 use Rattle.listing.specs.declared.Heading.{Heading}

@@ -2,7 +2,7 @@
 use Rattle.std.specs.Prelude.{◌≡◌, List, ℕ, ◌+◌, ℤ}
 use Rattle.history.specs.declared.Session.{Session}
 use Rattle.history.specs.declared.Command.TheVariants.{Value, Mark, Close}
-use Rattle.history.specs.declared.Answer.{Answer}
+use Rattle.engine.specs.Answers.{Answer}
 use Rattle.history.specs.Replies.{told}
 use Rattle.engine.specs.Calls.{Does}
 use Rattle.compare.specs.Answers.{is_accepted}

@@ -10,7 +10,7 @@ use Rattle.history.specs.Replies.{Told, acceptances}
 use Rattle.runs.specs.Runs.{Made, EachCall, AllAgree}
 use Rattle.runs.specs.Lists.{replies_of, commands_of, told_to, AllLent}
 use Rattle.runs.proofs.Lists.{each_call, told_all, in_turn_made}
-use Rattle.window.specs.declared.Answer.{Answer}
+use Rattle.window.specs.Answers.{Answer}
 use Rattle.window.specs.Windows.{Paper, opening, model}
 use Rattle.window.specs.Claim.{Answered, OpeningAgrees, Meets}
 use Rattle.window.specs.Calls.{Opens, Does}

@@ -3,7 +3,7 @@
 use mathlib.Core.Path.{◌≡◌, sym, ◌∙◌}
 use mathlib.Core.Bool.{true, false}
 use mathlib.Core.List.{List, [], ◌∷◌}
-use mathlib.Core.Option.{some}
+use Rattle.std.specs.Prelude.{Some}
 use Prim.Native.Nat.{ℕ, ◌+◌, ◌*◌, ◌<◌, ◌≤◌}
 use lib.IntN.{pos}
 use lib.ListN.{length, get_or}
@@ -12,7 +12,7 @@ use Rattle.history.specs.declared.Position.{Position}
 use Rattle.history.specs.Minimum.{Minimum}
 use Rattle.history.specs.declared.Session.{Session}
 use Rattle.history.specs.declared.Command.TheVariants.{Value, Mark, Query}
-use Rattle.history.specs.declared.Answer.{Answer}
+use Rattle.engine.specs.Answers.{Answer}
 use Rattle.history.specs.Minima.{stands_at, value_at, Least}
 use Rattle.history.specs.Replies.{accepted, showing, told}
 use Rattle.history.specs.Histories.{History, opening, step, model}
@@ -37,12 +37,12 @@ module _ (first words : List ℕ) (h : History) (s : Session) (run : Reached Ope
     replied = steps.replied first words h s run i lent left a own call
 
     -- whatever is shown
-    module _ (m : Minimum) (shows : (told a.reply).shown ≡ some m) where
+    module _ (m : Minimum) (shows : (told a.reply).shown ≡ Some m) where
       least : Least h.values i m
       least = steps.least first words h s run i lent left a own call m shows
 
       -- "The bookkeeper of the third demand writes the earliest place from here": what is shown is what the history's step shows
-      pub history_shows : (step h (length lent) (Query i)).tells.shown ≡ some m
+      pub history_shows : (step h (length lent) (Query i)).tells.shown ≡ Some m
       history_shows = sym (steps.replied first words h s run i lent left a own call).shown ∙ shows
 
       -- "Among equal least values the place is the earliest at or after the tap." It stands from the mark to the present, no value there is lower, and each earlier one there is higher

@@ -1,14 +1,14 @@
 -- Steps of point 5 of the engine, of any run: what a Query is told, and the least value that is shown. `Earliest` states both too, and takes them from here, so that no statement there rests on another.
 use mathlib.Core.Path.{◌≡◌, refl}
 use mathlib.Core.List.{List}
-use mathlib.Core.Option.{some}
+use Rattle.std.specs.Prelude.{Some}
 use Prim.Native.Nat.{ℕ}
 use lib.ListN.{length}
 use Rattle.history.specs.declared.Position.{Position}
 use Rattle.history.specs.Minimum.{Minimum}
 use Rattle.history.specs.declared.Session.{Session}
 use Rattle.history.specs.declared.Command.TheVariants.{Query}
-use Rattle.history.specs.declared.Answer.{Answer}
+use Rattle.engine.specs.Answers.{Answer}
 use Rattle.history.specs.Minima.{Least}
 use Rattle.history.specs.Replies.{told}
 use Rattle.history.specs.Histories.{History}
@@ -21,5 +21,5 @@ module _ (first words : List ℕ) (h : History) (s : Session) (run : Reached Ope
     pub replied : Replied h (Query i) lent left (told a.reply)
     replied = every_run.replies first words h s run (Query i) lent left a own call
 
-    pub least : (m : Minimum) → (told a.reply).shown ≡ some m → Least h.values i m
+    pub least : (m : Minimum) → (told a.reply).shown ≡ Some m → Least h.values i m
     least m shows = (replied.only_least i m refl shows).1

@@ -1,13 +1,13 @@
 -- `lookup`, a program for POINTS 3 AND 6: its worked examples, and that there is no choice without a `set`, cited; what is printed of any input, used; and of one input, of the function that writes it.
 use mathlib.Core.Path.{◌≡◌, refl, ap}
 use mathlib.Core.List.{List, [], ◌∷◌}
-use mathlib.Core.Option.{none}
+use Rattle.std.specs.Prelude.{None}
 use Prim.Native.Nat.{ℕ, suc}
 use lib.IntN.{ℤ}
 use lib.ListN.{length, set}
 use borrow.Author.Tests.{ne_eqb}
 use Rattle.history.specs.Minima.{lowest}
-use Rattle.blocks.specs.declared.Found.{Found}
+use Rattle.blocks.specs.Found.{Found}
 use Rattle.blocks.specs.Takes.{block_minima_from}
 use Rattle.blocks.specs.Calls.{Choice}
 use Rattle.numbers.specs.FourBytes.{values_from}
@@ -76,7 +76,7 @@ allowed_each values index (r ∷ rs) [] a = absurd a
 allowed_each values index (r ∷ rs) (f ∷ fs) a = ap suc (allowed_each values (index_after index r) rs fs a.1)
 
 -- no other kind byte than 01 to 04 is a request's
-unknown_kind : (kind a b c : ℕ) → (kind ≡ 1 → ⊥) → (kind ≡ 2 → ⊥) → (kind ≡ 3 → ⊥) → (kind ≡ 4 → ⊥) → request_of kind a b c ≡ none
+unknown_kind : (kind a b c : ℕ) → (kind ≡ 1 → ⊥) → (kind ≡ 2 → ⊥) → (kind ≡ 3 → ⊥) → (kind ≡ 4 → ⊥) → request_of kind a b c ≡ None
 unknown_kind kind a b c p q r s = simp (ne_eqb kind 1 p, ne_eqb kind 2 q, ne_eqb kind 3 r, ne_eqb kind 4 s)
 
 -- over an altered index, either of two lines: 9 at 0, and 7 at 1

@@ -5,7 +5,9 @@ use mathlib.Core.Path.{◌≡◌, refl, sym, ap, ◌∙◌}
 use mathlib.Core.Bool.{true}
 use mathlib.Core.List.{List, [], ◌∷◌, map}
 use mathlib.Core.Logic.{◌⊎◌}
-use mathlib.Core.Option.{some}
+use Rattle.std.specs.Prelude.{Result}
+use Rattle.history.specs.declared.Refusal.{Refusal}
+use Rattle.std.specs.Prelude.{Some}
 use Prim.Native.Nat.{ℕ, ◌+◌, ◌-◌, ◌/◌, ◌<◌, ◌≤◌, min}
 use lib.IntN.{ℤ, pos, negsuc}
 use lib.Signed.{le_z}
@@ -17,7 +19,7 @@ use denote.Builtin.{SliceRefOf, usize, i32}
 use denote.Struct.Field.{usize-field, u32-field, i32-field}
 use Rattle.laws.proofs.Order.{le_z_trans}
 use Rattle.blocks.specs.Takes.{range_minimum, block_minima}
-use Rattle.rough.specs.declared.Reading.{Reading}
+use Rattle.rough.specs.declared.Figures.{Figures}
 use Rattle.rough.specs.Looks.{Value, looks, looks_used, ToldReading, rough_reading, told}
 use Rattle.rough.specs.Promises.{ReadSays, read_by, Among, Point6}
 use Rattle.rough.proofs.Truth.{true_stands, true_under}
@@ -66,13 +68,13 @@ abbrev plainly : ℕ → ReadingNumbers
 plainly number = record { looks = 0; number = number; known = 0; high = pos 0; low = pos 0 }
 
 -- where `known` is 1 a high figure is shown, and it is `high`; where one is shown `known` is 1; and where a low figure is shown, it is `low`
-shown_high : (t : ToldReading) → (reading_in_numbers t).known ≡ 1 → t.high ≡ some (reading_in_numbers t).high
+shown_high : (t : ToldReading) → (reading_in_numbers t).known ≡ 1 → t.high ≡ Some (reading_in_numbers t).high
 shown_high = steps.shown_high
 
-known_where_shown : (t : ToldReading) (v : ℤ) → t.high ≡ some v → ((reading_in_numbers t).known ≡ 1) × ((reading_in_numbers t).high ≡ v)
+known_where_shown : (t : ToldReading) (v : ℤ) → t.high ≡ Some v → ((reading_in_numbers t).known ≡ 1) × ((reading_in_numbers t).high ≡ v)
 known_where_shown t v e = (ap known_number e, ap shown_number e)
 
-shown_low : (t : ToldReading) (v : ℤ) → t.low ≡ some v → (reading_in_numbers t).low ≡ v
+shown_low : (t : ToldReading) (v : ℤ) → t.low ≡ Some v → (reading_in_numbers t).low ≡ v
 shown_low = steps.shown_low
 
 -- the least value of the range, of C's own array: a value of it, and at most each
@@ -84,7 +86,7 @@ pub record Exact (values : List ℤ) (i j : ℕ) (r : ReadingNumbers) : Type 0 w
 
 -- EVERY READING, over any index
 module _ (values index : List ℤ) (i j B : ℕ) (r : ReadingNumbers) (t : RoughTold values index i j B r) where
-  abbrev reading : Reading
+  abbrev reading : Result Figures Refusal
   reading = t.3.reading
 
   rough_15 : (length index ≡ (length values + 63) / 64 → ⊥) → r ≡ plainly 15
@@ -116,7 +118,7 @@ module _ (values index : List ℤ) (i j B : ℕ) (r : ReadingNumbers) (t : Rough
   rough_value : length index ≡ (length values + 63) / 64 → i ≤ j → j < length values → r.known ≡ 1 → (k : ℕ) → Among (Value k) (looks_used (length values) i j B) → le_z r.high (get_or values k (pos 0)) ≡ true
   rough_value n l h q k m =
       let known = sym (ap (λ (y : ReadingNumbers). y.known) t.3.numbers) ∙ q in
-      let high : (told reading).high ≡ some r.high = steps.shown_high (told reading) known ∙ sym (ap (λ (y : ReadingNumbers). some y.high) t.3.numbers) in
+      let high : (told reading).high ≡ Some r.high = steps.shown_high (told reading) known ∙ sym (ap (λ (y : ReadingNumbers). Some y.high) t.3.numbers) in
       ((steps.point_6.reading values index i j B reading t.3.reads).high n l h r.high high).1 (Value k) m tt
 
   -- OVER AN INDEX BUILT FROM THAT TAKE, in the values of C's own array
@@ -140,7 +142,7 @@ module _ (values index : List ℤ) (i j B : ℕ) (r : ReadingNumbers) (t : Rough
     rough_above q =
         let p = true_stands values i j l h in
         let known = sym (ap (λ (y : ReadingNumbers). y.known) t.3.numbers) ∙ q in
-        let high : (told reading).high ≡ some r.high = steps.shown_high (told reading) known ∙ sym (ap (λ (y : ReadingNumbers). some y.high) t.3.numbers) in
+        let high : (told reading).high ≡ Some r.high = steps.shown_high (told reading) known ∙ sym (ap (λ (y : ReadingNumbers). Some y.high) t.3.numbers) in
         (p.0, p.1, p.2, ap (λ (x : ℤ). le_z x r.high) p.3 ∙ (steps.point_6.built values index i j B reading t.3.reads e l h).above r.high high)
 
 -- B = 0 on a range that the take has
@@ -161,7 +163,7 @@ module _ (values index : List ℤ) (i j B C : ℕ) (r s : ReadingNumbers) (t : R
   high_falls : r.known ≡ 1 → (s.known ≡ 1) × (le_z s.high r.high ≡ true)
   high_falls q =
       let known = sym (ap (λ (y : ReadingNumbers). y.known) t.3.numbers) ∙ q in
-      let high : (told t.3.reading).high ≡ some r.high = steps.shown_high (told t.3.reading) known ∙ sym (ap (λ (y : ReadingNumbers). some y.high) t.3.numbers) in
+      let high : (told t.3.reading).high ≡ Some r.high = steps.shown_high (told t.3.reading) known ∙ sym (ap (λ (y : ReadingNumbers). Some y.high) t.3.numbers) in
       let f = (steps.point_6.bigger values index i j B C t.3.reading u.3.reading t.3.reads u.3.reads n l h b).high r.high high in (
         ap (λ (y : ReadingNumbers). y.known) u.3.numbers ∙ ap known_number f.1,
         ap (λ (x : ℤ). le_z x r.high) (ap (λ (y : ReadingNumbers). y.high) u.3.numbers ∙ ap shown_number f.1) ∙ f.2,
@@ -181,5 +183,5 @@ built_and_read values before after i j r b t l h c =
     record { known = x.0; same = x.1; stands = x.2; least = x.3 }
 
 -- THE CONVERSE: no more is learnt of the function that C calls than its contract says. The references may be any
-rough_told_of : (values index : List ℤ) (i j B : ℕ) (a : Reading) → told a ≡ rough_reading values index i j B → RoughTold values index i j B (reading_in_numbers (told a))
+rough_told_of : (values index : List ℤ) (i j B : ℕ) (a : Result Figures Refusal) → told a ≡ rough_reading values index i j B → RoughTold values index i j B (reading_in_numbers (told a))
 rough_told_of values index i j B a d = (([], ([], tt)), (0, 0), (0, 0), record { reading = a; reads = d; numbers = refl })

@@ -2,14 +2,16 @@
 use mathlib.Core.Path.{◌≡◌, refl, sym, ap, ◌∙◌}
 use mathlib.Core.Bool.{true}
 use mathlib.Core.List.{List}
-use mathlib.Core.Option.{Option, none, some}
+use Rattle.std.specs.Prelude.{Result}
+use Rattle.history.specs.declared.Refusal.{Refusal}
+use Rattle.std.specs.Prelude.{Option, None, Some}
 use Prim.Native.Nat.{ℕ, ◌<◌, ◌≤◌}
 use native.Mathlib.Omega.{arith}
 use lib.IntN.{ℤ, pos}
 use lib.Signed.{le_z}
 use lib.ListN.{length, get_or}
 use Rattle.blocks.specs.Takes.{range_minimum, block_minima}
-use Rattle.rough.specs.declared.Reading.{Reading}
+use Rattle.rough.specs.declared.Figures.{Figures}
 use Rattle.rough.specs.Looks.{looks, ToldReading, rough_reading, told}
 use Rattle.rough.specs.Promises.{Point6}
 use Rattle.rough.proofs.Point as point
@@ -20,18 +22,18 @@ use Rattle.firmware.specs.Readings.{shown_number, known_number, reading_in_numbe
 pub point_6 : Point6 (λ values index i j B r. told r ≡ rough_reading values index i j B)
 point_6 = point.point_6 (λ values index i j B r. told r ≡ rough_reading values index i j B) (λ values index i j B r d. d)
 
-pub shown_high : (t : ToldReading) → (reading_in_numbers t).known ≡ 1 → t.high ≡ some (reading_in_numbers t).high
+pub shown_high : (t : ToldReading) → (reading_in_numbers t).known ≡ 1 → t.high ≡ Some (reading_in_numbers t).high
 shown_high t e = go t.high e
   where
-    go : (o : Option ℤ) → known_number o ≡ 1 → o ≡ some (shown_number o)
-    go none e = absurd (omega (arith, e))
-    go (some v) e = refl
+    go : (o : Option ℤ) → known_number o ≡ 1 → o ≡ Some (shown_number o)
+    go None e = absurd (omega (arith, e))
+    go (Some v) e = refl
 
-pub shown_low : (t : ToldReading) (v : ℤ) → t.low ≡ some v → (reading_in_numbers t).low ≡ v
+pub shown_low : (t : ToldReading) (v : ℤ) → t.low ≡ Some v → (reading_in_numbers t).low ≡ v
 shown_low t v e = ap shown_number e
 
 -- at the full count, over an index built from that take: a high figure is shown, low is it, a value of the range is it, and it is at most each
-pub exact : (values index : List ℤ) (i j B : ℕ) (r : ReadingNumbers) (a : Reading) → told a ≡ rough_reading values index i j B → r ≡ reading_in_numbers (told a) → index ≡ block_minima values → i ≤ j → j < length values
+pub exact : (values index : List ℤ) (i j B : ℕ) (r : ReadingNumbers) (a : Result Figures Refusal) → told a ≡ rough_reading values index i j B → r ≡ reading_in_numbers (told a) → index ≡ block_minima values → i ≤ j → j < length values
     → length (looks (length values) i j) ≤ B
     → (r.known ≡ 1) × (r.low ≡ r.high) × ((k : ℕ) × (i ≤ k) × (k ≤ j) × (get_or values k (pos 0) ≡ r.high)) × ((k : ℕ) → i ≤ k → k ≤ j → le_z r.high (get_or values k (pos 0)) ≡ true)
 exact values index i j B r a d m e l h b =

@@ -13,7 +13,7 @@ use Rattle.runs.proofs.Lists.{each_call}
 use Rattle.runs.proofs.Calling as calling
 use Rattle.runs.proofs.Calling.{played}
 use Rattle.window.specs.declared.Window.{Window}
-use Rattle.window.specs.declared.Answer.{Answer}
+use Rattle.window.specs.Answers.{Answer}
 use Rattle.window.specs.Windows.{Paper, session_of, opening, model}
 use Rattle.window.specs.Claim.{Answered, OpeningAgrees, Meets}
 use Rattle.window.specs.Calls.{Opens, Does}

@@ -5,7 +5,7 @@ use mathlib.Core.Path.{◌≡◌, refl, ap}
 use mathlib.Core.Bool.{true, false}
 use mathlib.Core.List.{List, [], ◌∷◌, ◌++◌, map}
 use mathlib.Core.Logic.{◌⊎◌, inl, inr}
-use mathlib.Core.Option.{some}
+use Rattle.std.specs.Prelude.{Some}
 use Prim.Native.Nat.{ℕ, ◌+◌, ◌*◌, ◌<◌, ◌≤◌}
 use native.Mathlib.Omega.{arith}
 use lib.IntN.{ℤ, pos}
@@ -24,7 +24,7 @@ use Rattle.history.specs.Histories.{History, among}
 use Rattle.runs.specs.Runs.{is_own, Call, Made}
 use Rattle.runs.specs.Lists.{told_to, commands_of, AllLent, state_after_all, words_after_all, last_session}
 use Rattle.window.specs.declared.Window.{Window}
-use Rattle.window.specs.declared.Answer.{Answer}
+use Rattle.window.specs.Answers.{Answer}
 use Rattle.window.specs.Windows.{Paper, Stepped, session_of, opening, oldest, refusal_of, step, model}
 use Rattle.window.specs.Promises.{AnyValue}
 use Rattle.window.specs.Claim.{Answered, Meets, EveryRun, EveryInput, OldestInside, AsATap}
@@ -172,10 +172,10 @@ module _ (width : ℕ) (first left : List ℕ) (o : Answer) (calls : List (Call 
     value_least own h = let g = (steps.meets width first left o calls q made c lent d).1.gets own h in (g.0, g.1, g.2.stands, g.2.least)
 
     -- and nothing else is shown: it stands in the window, and (point 5) each earlier value there is higher
-    pub shown_inside : (m : Minimum) → c.told.shown ≡ some m → ((oldest (present_at later.values) p.width).0 ≤ m.place.0) × (m.place.0 ≤ length later.values)
+    pub shown_inside : (m : Minimum) → c.told.shown ≡ Some m → ((oldest (present_at later.values) p.width).0 ≤ m.place.0) × (m.place.0 ≤ length later.values)
     shown_inside m e = let l = (steps.meets width first left o calls q made c lent d).1.shown m e in (l.from, l.to)
 
-    pub shown_earliest : (m : Minimum) → c.told.shown ≡ some m → (k : Position) → (oldest (present_at later.values) p.width).0 ≤ k.0 → k.0 < m.place.0
+    pub shown_earliest : (m : Minimum) → c.told.shown ≡ Some m → (k : Position) → (oldest (present_at later.values) p.width).0 ≤ k.0 → k.0 < m.place.0
         → le_z (value_at later.values k) m.value ≡ false
     shown_earliest m e = ((steps.meets width first left o calls q made c lent d).1.shown m e).earliest
 

@@ -17,7 +17,7 @@ use denote.Builtin.{SliceRefMutOf, u64, usize, i32}
 use denote.Struct.Field.{usize-field, u32-field, i32-field}
 use Rattle.history.specs.Replies.{Told, numbered, accepted, showing, told}
 use Rattle.window.specs.declared.Window.{Window}
-use Rattle.window.specs.declared.Answer.{Answer}
+use Rattle.window.specs.Answers.{Answer}
 use Rattle.window.specs.Windows.{Paper, Stepped}
 use Rattle.window.specs.Promises.{OpeningSays, ValueSays, Refused}
 use Rattle.window.specs.Claim.{EveryRun}

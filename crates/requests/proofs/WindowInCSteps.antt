@@ -12,7 +12,7 @@ use contract.Lifetimes.{Lfts}
 use denote.Ref.{MutBor, at_last}
 use Rattle.history.specs.Replies.{Told, numbered, accepted, showing, told}
 use Rattle.window.specs.declared.Window.{Window}
-use Rattle.window.specs.declared.Answer.{Answer}
+use Rattle.window.specs.Answers.{Answer}
 use Rattle.window.specs.Windows.{Paper, Stepped, blank, opening_refusal}
 use Rattle.window.specs.Promises.{OpeningSays, ValueSays}
 use Rattle.window.specs.Calls.{Opens, Does}

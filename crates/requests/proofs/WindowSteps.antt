@@ -8,7 +8,7 @@ use lib.ListN.{length, get_or}
 use Rattle.runs.specs.Runs.{is_own, Call, Made}
 use Rattle.runs.specs.Lists.{state_after_all, words_after_all, last_session}
 use Rattle.runs.proofs.Lists.{last_call, made_more}
-use Rattle.window.specs.declared.Answer.{Answer}
+use Rattle.window.specs.Answers.{Answer}
 use Rattle.window.specs.Windows.{Paper, opening, model}
 use Rattle.window.specs.Claim.{Answered, Meets}
 use Rattle.window.proofs.Functions as functions

@@ -7,7 +7,7 @@ use Rattle.runs.specs.Runs.{Call, Made}
 use Rattle.runs.specs.Lists as Lists
 use Rattle.runs.specs.Lists.{lines_of, last_session}
 use Rattle.window.specs.declared.Window.{Window}
-use Rattle.window.specs.declared.Answer.{Answer}
+use Rattle.window.specs.Answers.{Answer}
 use Rattle.window.specs.Windows.{opening, model}
 use Rattle.window.specs.Promises.{OpeningSays, ValueSays, window_of}
 use Rattle.window.specs.Claim.{Answered}

@@ -2,7 +2,7 @@
 use mathlib.Core.Path.{◌≡◌, refl, ap, ◌∙◌}
 use mathlib.Core.Bool.{Bool, true, false, cond}
 use mathlib.Core.List.{List, [], ◌∷◌, ◌++◌, append-nil}
-use mathlib.Core.Option.{some}
+use Rattle.std.specs.Prelude.{Some}
 use native.Mathlib.Omega.{arith}
 use lib.IntN.{ℤ}
 use Rattle.history.specs.declared.Position.{Position}
@@ -29,7 +29,7 @@ least_append (u ∷ us) (w ∷ ws) =
     let both = minimum-append (u ∷ us) (w ∷ ws) first (omega arith) (omega arith) (omega arith) in
     let second : (minimum (u ∷ us ++ (w ∷ ws)) (next (present_at (u ∷ us)))).value ≡ (minimum (w ∷ ws) first).value =
     ap (λ (m : Minimum). m.value) (minimum-behind (u ∷ us) (w ∷ ws) first (omega arith)) in
-    ap some
+    ap Some
     (ap (λ (m : Minimum). m.value) both
     ∙ lower-value (minimum (u ∷ us) first) (minimum (u ∷ us ++ (w ∷ ws)) (next (present_at (u ∷ us))))
     ∙ ap (λ (v : ℤ). cond (takes_over v (minimum (u ∷ us) first).value) v (minimum (u ∷ us) first).value) second)

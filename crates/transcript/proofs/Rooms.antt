@@ -9,7 +9,7 @@ use lib.ListN.{length, length-append}
 use Rattle.history.specs.declared.Session.{Session}
 use Rattle.history.specs.declared.Command.{Command}
 use Rattle.history.specs.declared.Command.TheVariants.{Value, Mark, Query, Close}
-use Rattle.history.specs.declared.Answer.{Answer}
+use Rattle.engine.specs.Answers.{Answer}
 use Rattle.history.specs.Replies.{Told, told}
 use Rattle.reading.specs.Kinds.{bytes_of}
 use Rattle.engine.specs.Calls.{Does}

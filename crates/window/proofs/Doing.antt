@@ -1,7 +1,7 @@
 -- When the answers of an opening and of a value meet their contracts, by the way out.
 use mathlib.Core.Path.{◌≡◌, refl, sym, ap, ◌∙◌, subst}
 use mathlib.Core.List.{List, [], ◌∷◌, ◌++◌}
-use mathlib.Core.Logic.{◌⊎◌, ⊎_elim}
+use mathlib.Core.Logic.{⊎_elim}
 use Prim.Native.Nat.{ℕ, ◌*◌, ◌<◌, ◌≤◌}
 use native.Mathlib.Omega.{arith}
 use lib.IntN.{ℤ}
@@ -9,88 +9,66 @@ use lib.ListN.{length, length-append}
 use Rattle.history.specs.declared.Position.{Position}
 use Rattle.history.specs.Minimum.{Minimum}
 use Rattle.history.specs.declared.Refusal.{Refusal}
-use Rattle.history.specs.declared.Refusal.TheVariants.{Unopened, OtherLength, LastPosition, WidthOutOfRange, TooFewWords}
-use Rattle.history.specs.declared.Reply.TheVariants.{Accepted, Lowest}
+use Rattle.std.specs.Prelude.{Some, None, Ok, Err}
 use Rattle.history.specs.Minima.{stands_at, next, present_at, minimum}
-use Rattle.history.specs.Replies.{numbered, number_of, value_refusal, lent_refusal}
-use Rattle.history.proofs.Steps.{some_number, lent_unopened, lent_other, lent_own, last_due, earlier_free}
+use Rattle.history.specs.Replies.{numbered, number_of, value_refusal}
+use Rattle.history.proofs.Steps.{some_number, lent_unopened, lent_other, lent_own, lent_none, last_due, earlier_free}
 use Rattle.runs.specs.Runs.{AsLent}
 use Rattle.deque.specs.Words.{Holds}
 use Rattle.deque.specs.Calls.{Cleared, Arrived}
 use Rattle.window.specs.declared.Window.{Window}
 use Rattle.window.specs.Windows.{Paper, session_of, opening_refusal, blank, oldest, refusal_of, accept, step}
-use Rattle.window.specs.Promises.{window_of, AnyOpening, AnyValue}
+use Rattle.window.specs.Promises.{window_of}
 use Rattle.window.specs.Keeping.{Sound, Keeps, Represents}
 use Rattle.window.specs.Calls.{Opens, Does}
-use Rattle.window.specs.Private.{refused_with}
+use Rattle.window.specs.Private.{due_of}
 use Rattle.window.proofs.Inside.{newest_inside, as_wide, as_many, moves_on, first_oldest}
-use Rattle.window.proofs.Steps.{width_zero, width_large, words_few, words_enough, opening_refused, opening-accepted, refused, step-refused, step_accepted}
-
--- AN OPENING THAT IS REFUSED: nothing is written, and the session is unopened
-open_refused : (width : ℕ) (w : List ℕ) (why : Refusal) → opening_refusal (length w) width ≡ number_of why
-    → AnyOpening width w w (window_of 0 0 0) (numbered (number_of why)) → Opens width w w (refused_with (session_of (blank 0 0)) why)
-open_refused width w why e a =
-    let r = opening_refused (length w) width (number_of why) e (some_number why) in
-    record { any = a; tells = rw r; represents = rw r (record { session = refl; own = λ z. absurd (z refl) }); rest = λ i l. refl }
+use Rattle.window.proofs.Steps.{width_zero, width_large, words_few, words_enough, opening_none, opening_refused, opening-accepted, refused, step-refused, step_accepted}
 
 module _ (width : ℕ) (w : List ℕ) where
-  pub open_zero : width < 1 → Opens width w w (refused_with (session_of (blank 0 0)) WidthOutOfRange)
-  open_zero l = open_refused width w WidthOutOfRange (width_zero (length w) width l) (record {
-    out_of_range = λ o. (refl, refl, refl);
-    too_short = λ a. absurd (omega arith);
-    opens = λ a. absurd (omega arith);
-    rest = λ i a. refl;
-    long = refl;
-  })
+  -- AN OPENING THAT IS REFUSED: nothing is written, and the session is unopened
+  pub open_refused : (why : Refusal) → number_of why ≡ opening_refusal (length w) width → Opens width w w (record { reply = Err why; session = session_of (blank 0 0) })
+  open_refused why e =
+      let z = some_number why in
+      let r = opening_refused (length w) width (number_of why) (sym e) z in
+      record {
+        any = record {
+          out_of_range = ⊎_elim (λ (l : width < 1). (ap numbered (e ∙ width_zero (length w) width l), refl, refl))
+              (λ (l : 4096 < width). (ap numbered (e ∙ width_large (length w) width (omega arith) l), refl, refl));
+          too_short = λ a b c. (ap numbered (e ∙ words_few (length w) width a b c), refl, refl);
+          opens = λ a b c. absurd (z (e ∙ words_enough (length w) width a b c));
+          rest = λ i a. refl;
+          long = refl;
+        };
+        tells = rw r;
+        represents = rw r (record { session = refl; own = λ z. absurd (z refl) });
+        rest = λ i l. refl;
+      }
 
-  module _ (some : 1 ≤ width) where
-    pub open_large : 4096 < width → Opens width w w (refused_with (session_of (blank 0 0)) WidthOutOfRange)
-    open_large l = open_refused width w WidthOutOfRange (width_large (length w) width some l) (record {
-      out_of_range = λ o. (refl, refl, refl);
-      too_short = λ a b. absurd (omega arith);
-      opens = λ a b. absurd (omega arith);
-      rest = λ i a. refl;
-      long = refl;
-    })
-
-    module _ (few : width ≤ 4096) where
-      -- W is in its range
-      inside : {C : Type 0} → (width < 1) ⊎ (4096 < width) → C
-      inside = ⊎_elim (λ (l : width < 1). absurd (omega arith)) (λ (l : 4096 < width). absurd (omega arith))
-
-      pub open_short : length w < 2 * width → Opens width w w (refused_with (session_of (blank 0 0)) TooFewWords)
-      open_short l = open_refused width w TooFewWords (words_few (length w) width some few l) (record {
-        out_of_range = λ o. inside o;
-        too_short = λ a b c. (refl, refl, refl);
-        opens = λ a b c. absurd (omega arith);
-        rest = λ i a. refl;
-        long = refl;
-      })
-
-      -- AN OPENING: the words hold a window with no values
-      pub open_done : (v : List ℕ) (n : ℕ) → 2 * width ≤ length w → n ≡ length w → Cleared w v
-          → Opens width w v (record { reply = Accepted; session = window_of n width 0 })
-      open_done v n l o q =
-          let e = opening-accepted (length w) width (words_enough (length w) width some few l) in
-          let rest : AsLent (2 * width) w v = λ i m. q.kept i (omega arith) in
-          record {
-            any = record {
-              out_of_range = λ x. inside x;
-              too_short = λ a b c. absurd (omega arith);
-              opens = λ a b c. (refl, rw o);
-              rest = rest;
-              long = q.long;
-            };
-            tells = rw e;
-            represents = rw e (record {
-              session = rw o;
-              own = λ z _. record {
-                holds = rw (first_oldest width) (q.holds width (record { some = omega arith; few = few; wide = omega arith }));
-                rest = rest;
-              };
-            });
-            rest = rw e rest;
-          }
+  -- AN OPENING: the words hold a window with no values
+  pub open_done : (v : List ℕ) → 0 ≡ opening_refusal (length w) width → Cleared w v → Opens width w v (record { reply = Ok None; session = window_of (length w) width 0 })
+  open_done v z q =
+      let e = opening-accepted (length w) width (sym z) in
+      let fits = opening_none (length w) width (sym z) in
+      let rest : AsLent (2 * width) w v = λ i m. q.kept i (omega (arith, fits.0)) in
+      record {
+        any = record {
+          out_of_range = ⊎_elim (λ (l : width < 1). absurd (omega (arith, fits.0))) (λ (l : 4096 < width). absurd (omega (arith, fits.1)));
+          too_short = λ a b c. absurd (omega (arith, fits.2));
+          opens = λ a b c. (refl, refl);
+          rest = rest;
+          long = q.long;
+        };
+        tells = rw e;
+        represents = rw e (record {
+          session = refl;
+          own = λ z _. record {
+            holds = rw (first_oldest width) (q.holds width (record { some = omega (arith, fits.0); few = fits.1; wide = fits.2 }));
+            rest = rest;
+          };
+        });
+        rest = rw e rest;
+      }
 
 -- the present position, with one value more
 one_more : (values : List ℤ) (v : ℤ) → next (present_at values) ≡ present_at (values ++ (v ∷ []))
@@ -113,10 +91,6 @@ arrives_at p {v} {after = after} {m} some q k =
       tight = as_many here p.width some;
     }))
 
--- the first refusal that applies to a value, by the session
-abbrev due_of : Window → ℕ → ℕ
-due_of s n = lent_refusal s.words n (value_refusal s.present)
-
 -- what is to be shown of every paper that the session and the words represent
 abbrev ForEach : Window → List ℕ → (Paper → List ℕ → Type 0) → Type 0
 ForEach s w P = (p : Paper) (first : List ℕ) → Sound p → Represents p first s w → P p first
@@ -127,81 +101,63 @@ module _ (s : Window) (v : ℤ) (w : List ℕ) where
   due_of_lem r = ap (λ (x : Window). due_of x (length w)) (sym r.session)
 
   -- A VALUE THAT IS REFUSED
-  does_refused : (why : Refusal) → due_of s (length w) ≡ number_of why → AnyValue s w w s (numbered (number_of why)) → Does s v w w (refused_with s why)
-  does_refused why e a = record { any = a; tells = λ p first y r. rw (there p first y r); represents = λ p first y r. rw (there p first y r) r }
+  pub does_refused : (why : Refusal) → number_of why ≡ due_of s (length w) → Does s v w w (record { reply = Err why; session = s })
+  does_refused why e =
+      let own = value_refusal s.present in
+      record {
+        any = record {
+          unopened = λ z. (ap numbered (e ∙ lent_unopened s.words (length w) own z), refl, refl);
+          other_length = λ z o. (ap numbered (e ∙ lent_other s.words (length w) own z o), refl, refl);
+          last_position = λ z o l. (ap numbered (e ∙ lent_own s.words (length w) own z o ∙ last_due s.present l), refl, refl);
+          accepts = λ z o n. absurd (some_number why (e ∙ lent_own s.words (length w) own z o ∙ earlier_free s.present n));
+          rest = λ i l. refl;
+          long = refl;
+        };
+        tells = λ p first y r. rw (there p first y r);
+        represents = λ p first y r. rw (there p first y r) r;
+      }
     where
       there : ForEach s w (λ p first. step p (length w) v ≡ refused p (number_of why))
-      there p first y r = step-refused p (length w) v (number_of why) (due_of_lem r ∙ e) (some_number why)
+      there p first y r = step-refused p (length w) v (number_of why) (due_of_lem r ∙ sym e) (some_number why)
 
-  pub does_unopened : s.words ≡ 0 → Does s v w w (refused_with s Unopened)
-  does_unopened z = does_refused Unopened (lent_unopened s.words (length w) (value_refusal s.present) z) (record {
-    unopened = λ e. (refl, refl, refl);
-    other_length = λ n. absurd (n z);
-    last_position = λ n. absurd (n z);
-    accepts = λ n. absurd (n z);
-    rest = λ i l. refl;
-    long = refl;
-  })
+  -- A VALUE THAT IS ACCEPTED: the least is what the deque returned
+  module _ (none : due_of s (length w) ≡ 0) {after : List ℕ} {m : Minimum} (q : Arrived w after s.width (stands_at v (next s.present)) m) where
+    free : (s.words ≡ 0 → ⊥) × (length w ≡ s.words) × (value_refusal s.present ≡ 0)
+    free = lent_none s.words (length w) (value_refusal s.present) none
 
-  module _ (z : s.words ≡ 0 → ⊥) where
-    pub does_other : (length w ≡ s.words → ⊥) → Does s v w w (refused_with s OtherLength)
-    does_other o = does_refused OtherLength (lent_other s.words (length w) (value_refusal s.present) z o) (record {
-      unopened = λ e. absurd (z e);
-      other_length = λ n m. (refl, refl, refl);
-      last_position = λ n m. absurd (o m);
-      accepts = λ n m. absurd (o m);
-      rest = λ i l. refl;
-      long = refl;
-    })
+    there : ForEach s w (λ p g. step p (length w) v ≡ accept p v)
+    there p g y r = step_accepted p (length w) v (due_of_lem r ∙ none)
 
-    module _ (o : length w ≡ s.words) where
-      own_due : due_of s (length w) ≡ value_refusal s.present
-      own_due = lent_own s.words (length w) (value_refusal s.present) z o
+    -- the session after it
+    abbrev later : Window
+    later = record { words = s.words; width = s.width; present = next s.present }
 
-      pub does_last : s.present.0 ≡ 4294967295 → Does s v w w (refused_with s LastPosition)
-      does_last l = does_refused LastPosition (own_due ∙ last_due s.present l) (record {
-        unopened = λ e. absurd (z e);
-        other_length = λ n m. absurd (m o);
-        last_position = λ a b c. (refl, refl, refl);
-        accepts = λ a b c. absurd (c l);
-        rest = λ i m. refl;
-        long = refl;
-      })
+    session : ForEach s w (λ p g. later ≡ session_of (accept p v).paper)
+    session p g y r =
+        ap (λ (x : Window). record { words = x.words; width = x.width; present = next x.present }) r.session
+        ∙ ap (λ (x : Position). record { words = p.words; width = p.width; present = x }) (one_more p.values v)
 
-      -- A VALUE THAT IS ACCEPTED: the least is what the deque returned
-      module _ (n : s.present.0 ≡ 4294967295 → ⊥) {after : List ℕ} {m : Minimum} (q : Arrived w after s.width (stands_at v (next s.present)) m) where
-        none : due_of s (length w) ≡ 0
-        none = own_due ∙ earlier_free s.present n
+    held : ForEach s w (λ p g. Keeps (accept p v).paper g after × (m ≡ minimum (p.values ++ (v ∷ [])) (oldest (present_at (p.values ++ (v ∷ []))) p.width)))
+    held p g y r =
+        let e = ap (λ (x : Window). x.words) r.session in
+        let k = r.own (λ x. free.0 (e ∙ x)) (free.1 ∙ e) in
+        let a = arrives_at p (y.some (λ x. free.0 (e ∙ x))) (rw r.session at q) k.holds in
+        (record { holds = a.0; rest = λ i l. q.kept i (rw r.session l) ∙ k.rest i l }, a.1)
 
-        there : ForEach s w (λ p g. step p (length w) v ≡ accept p v)
-        there p g y r = step_accepted p (length w) v (due_of_lem r ∙ none)
+    at_next : Does s v w after (record { reply = Ok (Some m); session = later })
+    at_next = record {
+      any = record {
+        unopened = λ e. absurd (free.0 e);
+        other_length = λ a b. absurd (b free.1);
+        last_position = λ a b c. absurd (omega (arith, last_due s.present c, free.2));
+        accepts = λ a b c. (m, refl, refl);
+        rest = q.kept;
+        long = q.long;
+      };
+      tells = λ p g y r. rw (there p g y r, (held p g y r).1);
+      represents = λ p g y r. rw (there p g y r) (record { session = session p g y r; own = λ _ _. (held p g y r).0 });
+    }
 
-        -- the session after it
-        abbrev later : Window
-        later = record { words = s.words; width = s.width; present = next s.present }
-
-        session : ForEach s w (λ p g. later ≡ session_of (accept p v).paper)
-        session p g y r =
-            ap (λ (x : Window). record { words = x.words; width = x.width; present = next x.present }) r.session
-            ∙ ap (λ (x : Position). record { words = p.words; width = p.width; present = x }) (one_more p.values v)
-
-        held : ForEach s w (λ p g. Keeps (accept p v).paper g after × (m ≡ minimum (p.values ++ (v ∷ [])) (oldest (present_at (p.values ++ (v ∷ []))) p.width)))
-        held p g y r =
-            let e = ap (λ (x : Window). x.words) r.session in
-            let k = r.own (λ x. z (e ∙ x)) (o ∙ e) in
-            let a = arrives_at p (y.some (λ x. z (e ∙ x))) (rw r.session at q) k.holds in
-            (record { holds = a.0; rest = λ i l. q.kept i (rw r.session l) ∙ k.rest i l }, a.1)
-
-        pub does_accepted : Does s v w after (record { reply = Lowest m; session = later })
-        does_accepted = record {
-          any = record {
-            unopened = λ e. absurd (z e);
-            other_length = λ a b. absurd (b o);
-            last_position = λ a b c. absurd (n c);
-            accepts = λ a b c. (m, refl, refl);
-            rest = q.kept;
-            long = q.long;
-          };
-          tells = λ p g y r. rw (there p g y r, (held p g y r).1);
-          represents = λ p g y r. rw (there p g y r) (record { session = session p g y r; own = λ _ _. (held p g y r).0 });
-        }
+  pub does_accepted : due_of s (length w) ≡ 0 → {after : List ℕ} {m : Minimum} (place : Position) → place ≡ next s.present → Arrived w after s.width (stands_at v place) m
+      → Does s v w after (record { reply = Ok (Some m); session = record { words = s.words; width = s.width; present = place } })
+  does_accepted none place e q = rw e (at_next none (rw e at q))

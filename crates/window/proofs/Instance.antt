@@ -14,7 +14,7 @@ use Rattle.history.proofs.Steps.{lent_unopened, lent_other}
 use Rattle.runs.specs.Runs.{Call}
 use Rattle.runs.proofs.Induction.{OneCall, own_length, own_lent, other_length_lem}
 use Rattle.window.specs.declared.Window.{Window}
-use Rattle.window.specs.declared.Answer.{Answer}
+use Rattle.window.specs.Answers.{Answer}
 use Rattle.window.specs.Windows.{Paper, Stepped, session_of, refusal_of, model}
 use Rattle.window.specs.Promises.{ValueSays}
 use Rattle.window.specs.Claim.{Answered}

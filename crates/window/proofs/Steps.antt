@@ -3,7 +3,7 @@ use mathlib.Core.Path.{◌≡◌, refl, sym, ap, ◌∙◌}
 use mathlib.Core.Bool.{Bool, true, false, cond}
 use mathlib.Core.List.{List, [], ◌∷◌, ◌++◌}
 use mathlib.Core.Logic.{⊎_elim}
-use mathlib.Core.Option.{none, some}
+use Rattle.std.specs.Prelude.{Some, None}
 use Prim.Native.Nat.{ℕ, ◌*◌, ◌<◌, ◌≤◌}
 use native.Mathlib.Decide.{ℕ_discrete}
 use native.Mathlib.Omega.{arith}
@@ -35,9 +35,13 @@ module _ (n width : ℕ) where
   pub words_enough : 1 ≤ width → width ≤ 4096 → 2 * width ≤ n → opening_refusal n width ≡ 0
   words_enough l m f = rw (le-leb 1 width l, le-leb width 4096 m, le-ltb n (2 * width) f)
 
-  -- where none applies, there is a width
-  opening_some : opening_refusal n width ≡ 0 → 1 ≤ width
-  opening_some e = ⊎_elim (λ (l : width < 1). absurd (omega (arith, width_zero l))) (λ (l : 1 ≤ width). l) (lt_or_ge width 1)
+  -- where none applies, W is in its range, and the words are enough
+  pub opening_none : opening_refusal n width ≡ 0 → (1 ≤ width) × (width ≤ 4096) × (2 * width ≤ n)
+  opening_none e =
+      let some : 1 ≤ width = ⊎_elim (λ (l : width < 1). absurd (omega (arith, width_zero l))) (λ (l : 1 ≤ width). l) (lt_or_ge width 1) in
+      let few : width ≤ 4096 = ⊎_elim (λ (l : 4096 < width). absurd (omega (arith, width_large some l))) (λ (l : width ≤ 4096). l) (lt_or_ge 4096 width) in
+      let wide : 2 * width ≤ n = ⊎_elim (λ (l : n < 2 * width). absurd (omega (arith, words_few some few l))) (λ (l : 2 * width ≤ n). l) (lt_or_ge n (2 * width)) in
+      (some, few, wide)
 
   pub opening_refused : (k : ℕ) → opening_refusal n width ≡ k → (k ≡ 0 → ⊥) → opening n width ≡ record { paper = blank 0 0; tells = numbered k }
   opening_refused k e z = rw (e, ne_eqb k 0 z)
@@ -48,7 +52,7 @@ module _ (n width : ℕ) where
   -- an opening leads to a sound paper, of as many words as were lent where it has words at all
   pub opening_sound : Sound (opening n width).paper
   opening_sound = elim (ℕ_discrete (opening_refusal n width) 0) [
-    | yes e ↦ rw (opening-accepted e) (record { some = λ z. opening_some e })
+    | yes e ↦ rw (opening-accepted e) (record { some = λ z. (opening_none e).0 })
     | no e ↦ rw (opening_refused _ refl e) (record { some = λ z. absurd (z refl) })
   ]
 
@@ -96,13 +100,13 @@ module _ (p : Paper) (n : ℕ) (v : ℤ) where
       ((oldest_inside p.width (length more) w).stays (length more) (omega (arith, l)) (omega arith) (omega arith)))
 
   -- and nothing else is shown
-  pub shown_least : (m : Minimum) → (step p n v).tells.shown ≡ some m → (refusal_of p n ≡ 0) × (m ≡ least p.width (p.values ++ (v ∷ [])))
+  pub shown_least : (m : Minimum) → (step p n v).tells.shown ≡ Some m → (refusal_of p n ≡ 0) × (m ≡ least p.width (p.values ++ (v ∷ [])))
   shown_least m e = elim (ℕ_discrete (refusal_of p n) 0) [
     | yes q ↦
-        let x : some (least p.width (p.values ++ (v ∷ []))) ≡ some m = sym (ap (λ (x : Stepped). x.tells.shown) (step_accepted q)) ∙ e in
+        let x : Some (least p.width (p.values ++ (v ∷ []))) ≡ Some m = sym (ap (λ (x : Stepped). x.tells.shown) (step_accepted q)) ∙ e in
         let y : least p.width (p.values ++ (v ∷ [])) ≡ m = cc in
         (q, sym y)
     | no q ↦
-        let x : none ≡ some m = sym (ap (λ (x : Stepped). x.tells.shown) (step-refused _ refl q)) ∙ e in
+        let x : None ≡ Some m = sym (ap (λ (x : Stepped). x.tells.shown) (step-refused _ refl q)) ∙ e in
         absurd (let y : ◌≡◌ {A = ℕ} 0 1 = cc in omega arith)
   ]

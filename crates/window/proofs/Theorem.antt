@@ -12,7 +12,7 @@ use Rattle.history.proofs.Following.{told_minimum}
 use Rattle.runs.specs.Runs.{Call, state_after, Agrees}
 use Rattle.runs.proofs.Induction.{own_length, run}
 use Rattle.window.specs.declared.Window.{Window}
-use Rattle.window.specs.declared.Answer.{Answer}
+use Rattle.window.specs.Answers.{Answer}
 use Rattle.window.specs.Windows.{Paper, Stepped, opening, oldest, least, model}
 use Rattle.window.specs.Promises.{OpeningSays, ValueSays}
 use Rattle.window.specs.Claim.{Answered, Meets, EveryRun, EveryInput, AsATap}

@@ -6,7 +6,7 @@ use lib.IntN.{ℤ}
 use contract.Lifetimes.{Lfts}
 use denote.Ref.{MutBor, at_last}
 use Rattle.window.specs.declared.Window.{Window}
-use Rattle.window.specs.declared.Answer.{Answer}
+use Rattle.window.specs.Answers.{Answer}
 use Rattle.window.specs.Promises.{OpeningSays, ValueSays}
 use Rattle.window.specs.Calls.{Opens, Does}
 use Rattle.window.proofs.open.Reads as open-reads

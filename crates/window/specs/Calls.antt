@@ -4,7 +4,7 @@ use Rattle.std.specs.Prelude.{◌≡◌, List, ℕ, ℤ, length}
 use Rattle.history.specs.Replies.{told}
 use Rattle.runs.specs.Runs.{AsLent}
 use Rattle.window.specs.declared.Window.{Window}
-use Rattle.window.specs.declared.Answer.{Answer}
+use Rattle.window.specs.Answers.{Answer}
 use Rattle.window.specs.Windows.{Paper, opening, step, model}
 use Rattle.window.specs.Promises.{AnyOpening, AnyValue}
 use Rattle.window.specs.Keeping.{Sound, Represents}

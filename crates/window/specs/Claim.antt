@@ -1,8 +1,7 @@
 -- POINT 2 of document 02: `EveryRun` is one claim over the whole list of values after one opening of any length and any W, on words of any content, with any length lent at each value, refused
 -- ones included. What a run is, and which words a call is lent, is said in `runs`, for the engine and the window alike. Beside it stand `EveryInput`, of sessions and words that no call left,
 -- which no run has; and what the window's oldest position and its reply are, in other words than the paper's.
-use Rattle.std.specs.Prelude.{◌≡◌, true, List, [], ◌∷◌, ◌++◌, ℕ, ◌+◌, ◌<◌, ◌≤◌, ℤ, length}
-use Rattle.std.proofs.Math.Option.{some}
+use Rattle.std.specs.Prelude.{◌≡◌, true, List, [], ◌∷◌, ◌++◌, ℕ, ◌+◌, ◌<◌, ◌≤◌, ℤ, length, Some}
 use Rattle.history.specs.declared.Position.{Position}
 use Rattle.history.specs.Minimum.{Minimum}
 use Rattle.history.specs.declared.Command.TheVariants.{Query}
@@ -12,7 +11,7 @@ use Rattle.history.specs.Histories as Histories
 use Rattle.history.specs.Histories.{History, among}
 use Rattle.runs.specs.Runs.{AsLent, is_own, Call, Made, Agrees, EachCall}
 use Rattle.window.specs.declared.Window.{Window}
-use Rattle.window.specs.declared.Answer.{Answer}
+use Rattle.window.specs.Answers.{Answer}
 use Rattle.window.specs.Windows.{Paper, session_of, opening, oldest, refusal_of, step, model}
 use Rattle.window.specs.Promises.{OpeningSays, ValueSays, AnyOpening, AnyValue}
 
@@ -36,7 +35,7 @@ pub record Meets (n : ℕ) (first now : List ℕ) (p later : Paper) (c : Call mo
   pub gets : is_own n c.lent ≡ true → ((present_at p.values).0 ≡ 4294967295 → ⊥)
       → (m : Minimum) × (c.told ≡ showing m) × Least later.values (oldest (present_at later.values) p.width) m
   -- and whatever is shown after a value is that least
-  pub shown : (m : Minimum) → c.told.shown ≡ some m → Least later.values (oldest (present_at later.values) p.width) m
+  pub shown : (m : Minimum) → c.told.shown ≡ Some m → Least later.values (oldest (present_at later.values) p.width) m
 
 -- THE CLAIM, where `opens` is known of the opening's function, and `says` of the values'
 abbrev pub EveryRun : OpeningSays → ValueSays → Type 0

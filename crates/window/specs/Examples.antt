@@ -5,7 +5,7 @@ use Rattle.history.specs.Minima.{stands_at}
 use Rattle.history.specs.Replies.{Told, numbered, accepted, showing, told}
 use Rattle.runs.specs.Runs.{Call, Made}
 use Rattle.runs.specs.Lists.{replies_of, commands_of, told_to, AllLent}
-use Rattle.window.specs.declared.Answer.{Answer}
+use Rattle.window.specs.Answers.{Answer}
 use Rattle.window.specs.Windows.{opening, model}
 use Rattle.window.specs.Promises.{OpeningSays, ValueSays}
 use Rattle.window.specs.Claim.{Answered}

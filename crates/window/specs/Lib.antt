@@ -1,3 +1,4 @@
+pub mod Answers
 pub mod Windows
 pub mod Promises
 pub mod Claim

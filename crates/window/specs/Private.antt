@@ -1,9 +1,8 @@
--- The contract of the window's private function `refuse`.
-use Rattle.history.specs.declared.Refusal.{Refusal}
-use Rattle.history.specs.declared.Reply.TheVariants.{Refused}
+-- The contract of the window's private function `entered`.
+use Rattle.std.specs.Prelude.{ℕ}
+use Rattle.history.specs.Replies.{value_refusal, lent_refusal}
 use Rattle.window.specs.declared.Window.{Window}
-use Rattle.window.specs.declared.Answer.{Answer}
 
--- the session comes back equal
-abbrev pub refused_with : Window → Refusal → Answer
-refused_with s why = record { reply = Refused why; session = s }
+-- the number of the first refusal that applies to a value, by the session and the length lent
+abbrev pub due_of : Window → (n : ℕ) → ℕ
+due_of s n = lent_refusal s.words n (value_refusal s.present)

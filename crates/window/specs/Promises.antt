@@ -5,7 +5,7 @@ use Rattle.history.specs.Minimum.{Minimum}
 use Rattle.history.specs.Minima.{next}
 use Rattle.history.specs.Replies.{Told, numbered, accepted, showing}
 use Rattle.window.specs.declared.Window.{Window}
-use Rattle.window.specs.declared.Answer.{Answer}
+use Rattle.window.specs.Answers.{Answer}
 
 -- what is known of an opening: W, the words before and after, and its answer; and of a value: the session that went in, the value, the words before and after, and its answer
 abbrev pub OpeningSays : Type 1

@@ -2,108 +2,98 @@
 // The session goes in with each call and a new one comes out; all else that outlives a call is in the words.
 #![tactic(auto)]
 
-ghost use Rattle.std.specs.Prelude.{◌≡◌};
-ghost use Rattle.window.specs.Windows as Windows;
+ghost use Rattle.std.specs.Prelude.{◌≡◌, IfOk};
+ghost use Rattle.history.specs.Replies.{number_told};
+ghost use Rattle.history.specs.Minima.{next};
+ghost use Rattle.window.specs.Windows.{opening_refusal};
 ghost use Rattle.window.specs.Calls.{Opens, Does};
-ghost use Rattle.window.specs.Private.{refused_with};
+ghost use Rattle.window.specs.Private.{due_of};
 
-use history::{Minimum, Position, Refusal, Reply};
+use history::{Answer, Minimum, Position, Refusal};
 
 // The window's session: N, W and the present position. It is unopened just when N is 0.
-#[derive(Clone, Copy)]
+#[derive(Clone, Copy, PartialEq, Eq)]
 pub struct Window {
     pub words: usize,
     pub width: usize,
     pub present: Position,
 }
 
-// A reply, with the session after it.
-#[derive(Clone, Copy)]
-pub struct Answer {
-    pub reply: Reply,
-    pub session: Window,
-}
+// A session with no opening: all its numbers are 0.
+const UNOPENED: Window = Window {
+    words: 0,
+    width: 0,
+    present: Position(0),
+};
 
-// A refusal: the session comes back equal.
-fn refuse(s: Window, why: Refusal) -> Answer
-    ensures { result ≡ refused_with s why }
+// Whether n words serve a window of the last `width` values: 12, then 13.
+fn serve(n: usize, width: usize) -> Result<(), Refusal>
+    ensures { number_told result ≡ opening_refusal n width }
 {
-    Answer {
-        reply: Reply::Refused(why),
-        session: s,
+    if width < 1 {
+        return Err(Refusal::WidthOutOfRange);
     }
-}
-
-// An opening's refusal: the session is unopened, all its numbers 0.
-fn unopened(why: Refusal) -> Answer
-    ensures { result ≡ refused_with (Windows.session_of (Windows.blank 0 0)) why }
-{
-    refuse(
-        Window {
-            words: 0,
-            width: 0,
-            present: Position(0),
-        },
-        why,
-    )
+    if deque::MOST_SLOTS < width {
+        return Err(Refusal::WidthOutOfRange);
+    }
+    if n < 2 * width {
+        return Err(Refusal::TooFewWords);
+    }
+    Ok(())
 }
 
 // A window of the last `width` values is opened, whatever the words hold.
-pub fn open(area: &mut [u64], width: usize) -> Answer
+pub fn open(area: &mut [u64], width: usize) -> Answer<Window>
     ensures { Opens width area.old area.new result }
 {
     let n = area.len();
-    if width < 1 {
-        return unopened(Refusal::WidthOutOfRange);
-    }
-    if deque::MOST_SLOTS < width {
-        return unopened(Refusal::WidthOutOfRange);
-    }
-    if n < 2 * width {
-        return unopened(Refusal::TooFewWords);
-    }
-    deque::clear(area);
-    Answer {
-        reply: Reply::Accepted,
-        session: Window {
-            words: n,
-            width,
-            present: Position(0),
+    match serve(n, width) {
+        Err(why) => Answer {
+            reply: Err(why),
+            session: UNOPENED,
         },
+        Ok(()) => {
+            deque::clear(area);
+            Answer {
+                reply: Ok(None),
+                session: Window {
+                    words: n,
+                    width,
+                    present: Position(0),
+                },
+            }
+        }
     }
 }
 
-// The next value of the stream. The one that is W older leaves, and the least of those in the window is told.
-pub fn value(s: Window, area: &mut [u64], v: i32) -> Answer
+// The position that a value gets where n words are lent, or why it is refused.
+fn entered(s: Window, n: usize) -> Result<Position, Refusal>
+    ensures refused { number_told result ≡ due_of s n }
+    ensures next { IfOk result (λ place. place ≡ next s.present) }
+{
+    history::lent(s.words, n)?;
+    s.present.next()
+}
+
+// The next value of the stream. The one that is W older leaves, and the least of those in the window is told. After a refusal the session comes back equal.
+pub fn value(s: Window, area: &mut [u64], v: i32) -> Answer<Window>
     ensures { Does s v area.old area.new result }
 {
-    let words = s.words;
-    if words == 0 {
-        return refuse(s, Refusal::Unopened);
-    }
-    if area.len() != words {
-        return refuse(s, Refusal::OtherLength);
-    }
-    let present = s.present;
-    if present.0 == 4294967295 {
-        return refuse(s, Refusal::LastPosition);
-    }
-    let width = s.width;
-    let next = Position(present.0 + 1);
-    let least = deque::arrive(
-        area,
-        width,
-        Minimum {
-            value: v,
-            place: next,
+    match entered(s, area.len()) {
+        Err(why) => Answer {
+            reply: Err(why),
+            session: s,
         },
-    );
-    Answer {
-        reply: Reply::Lowest(least),
-        session: Window {
-            words,
-            width,
-            present: next,
+        Ok(next) => Answer {
+            reply: Ok(Some(deque::arrive(
+                area,
+                s.width,
+                Minimum {
+                    value: v,
+                    place: next,
+                },
+            ))),
+            session: Window { present: next, ..s },
         },
     }
 }

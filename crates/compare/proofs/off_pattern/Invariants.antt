@@ -1,5 +1,4 @@
--- `compare::off_pattern` meets its contract. The loop's invariant: the count is that of the indices passed, from the first on; no index is passed that the area does not have. The measure is
--- what is left of the length.
+-- `compare::off_pattern` meets its contract. The loop's invariant: the count is that of the indices passed, from the first on; no index is passed that the area does not have.
 use Rattle.std.proofs.Common.{◌≡◌, List, ℕ, ◌+◌, ◌-◌, ◌≤◌, length, get_or}
 use Rattle.compare.specs.Words.{pattern_at, differing_below}
 use Rattle.compare.proofs.off_pattern.Given as goal
@@ -14,6 +13,3 @@ pattern-from from k = pattern_at (from + k)
 abbrev pub invariant-loop-i : goal.invariant-loop-i
 invariant-loop-i l =
     (l.from ≤ l.i) × (l.i - l.from ≤ length l.area - l.from) × (l.count ≡ differing_below (from_on l.area l.from) (pattern-from l.from) (l.i - l.from))
-
-abbrev pub decreases-loop-i : goal.decreases-loop-i
-decreases-loop-i l = length l.area - l.i
