@@ -12,6 +12,7 @@ use native.Mathlib.Nat.{eq-zero-or-pos}
 use Prim.Native.Nat.{ℕ, ◌<◌, ◌≤◌, min}
 use native.Mathlib.Omega.{arith}
 use lib.ListN.{length, get_or, set}
+use Rattle.laws.proofs.Tests.{lt_or_ge}
 use Rattle.history.specs.declared.Position.{Position}
 use Rattle.history.specs.Minimum.{Minimum}
 use Rattle.history.specs.declared.Command.TheVariants.{Close}
@@ -28,7 +29,6 @@ use Rattle.layout.proofs.Written.{wrote_header}
 use Rattle.layout.proofs.Puts.{puts_lanes}
 use Rattle.table.specs.Marks.{Live, released}
 use Rattle.table.specs.Calls.{Sought, Released}
-use Rattle.table.proofs.Closing.{release_within}
 use Rattle.packing.specs.Packing.{packed, unpacked, Faithful}
 use Rattle.stack.specs.Calls.{Lowered, Looked}
 use Rattle.stack.proofs.Lowering.{lowered_within}
@@ -36,6 +36,7 @@ use Rattle.stack.proofs.Rooms.{room_or_not}
 use Rattle.ranges.specs.Holding.{Holds}
 use Rattle.ranges.specs.Calls.{Inside, Opened, Valued, Marked, LookedUp, Closed}
 use Rattle.ranges.specs.Private.{Chosen, LowerOf, UpToNow, ClosedNext, Appended, Turned, Shared}
+use Rattle.ranges.proofs.Ways.{apart}
 use Rattle.ranges.proofs.Bounds.{nothing_done, done_then, header_inside, within_inside, released_inside, next_inside, appended_inside, turned_inside, shared_inside}
 use Rattle.ranges.proofs.Later.{rooms}
 use Rattle.ranges.proofs.Upkeep.{opening_puts, opened_holds, valued_holds}
@@ -141,6 +142,18 @@ module _ (w : List ℕ) (p : Position) (role : Role) (e : Extent) (own : e ≡ e
   sought : Sought w ex.lane ex.rows ex.capacity p found
   sought = subst (λ (x : Extent). Sought w x.lane x.rows x.capacity p found) own q
 
+  -- the active lane is chosen where the position is not before its start
+  started : role ≡ Active → (start_of w Active).0 ≤ p.0
+  started a =
+      ⊎_elim
+      (λ (l : p.0 < (start_of w Active).0).
+      ⊎_elim (λ (m : p.0 < (start_of w Younger).0). apart Active Older a (c.older l m) (λ z. omega arith))
+      (λ (m : (start_of w Younger).0 ≤ p.0). apart Active Younger a (c.younger l m) (λ z. omega arith)) (lt_or_ge p.0 (start_of w Younger).0))
+      (λ (l : (start_of w Active).0 ≤ p.0). l) (lt_or_ge p.0 (start_of w Active).0)
+
+  earlier : (role ≡ Active → ⊥) → p.0 < (start_of w Active).0
+  earlier n = ⊎_elim (λ (l : p.0 < (start_of w Active).0). l) (λ (l : (start_of w Active).0 ≤ p.0). absurd (n (c.active l))) (lt_or_ge p.0 (start_of w Active).0)
+
   -- the mark is not found
   pub not_there : found ≡ None → (h : History) (first : List ℕ) → Holds h first w → among p h.active ≡ false
   not_there n h first k = lost_inactive h first w p k role (where_is c) found sought n
@@ -209,11 +222,6 @@ module _ (w : List ℕ) (p : Position) (role : Role) (e : Extent) (own : e ≡ e
       closed_inside : Inside w u
       closed_inside = released_inside ex.lane ex.rows g rel_own
 
-      pub start_kept : get_or u 4 0 ≡ get_or w 4 0
-      start_kept = ⊎_elim
-          (λ (r : Room w ex.rows.0). ap (λ (x : List ℕ). get_or x 4 0) (closed_words r) ∙ (release_within w ex.lane ex.rows g live.row).header 4 (omega arith))
-          (λ (z : u ≡ w). ap (λ (x : List ℕ). get_or x 4 0) z) closed_lane
-
       -- of a history there is room
       history_words : (h : History) (first : List ℕ) → Holds h first w → (r : Role) → role ≡ r → u ≡ released w (extent_of w r).lane g
       history_words h first k r a = closed_words (rooms (lane_of h first w p k role)) ∙ ap (λ (x : Role). released w (extent_of w x).lane g) a
@@ -222,25 +230,25 @@ module _ (w : List ℕ) (p : Position) (role : Role) (e : Extent) (own : e ≡ e
       live_in r a = subst (λ (x : Role). Live w (extent_of w x).lane (extent_of w x).rows p g) a live
 
       -- it is the active lane's
-      pub close_active : (start_of w Active).0 ≤ p.0 → Closed w u p true
-      close_active l = record {
+      pub close_active : role ≡ Active → Closed w u p true
+      close_active a = record {
         inside = closed_inside;
         none = λ z. absurd (true≢false z);
         live = λ z. (role, g, live);
         found = λ h first k. sym (is_there h first k);
         holds = λ h first k z.
-            let a = c.active l in
+            let l : (start_of w Active).0 ≤ p.0 = started a in
             subst (Holds (accept h (Close p)).history first) (sym (history_words h first k Active a)) (closed_active h first w p k g l (live_in Active a));
       }
 
       -- or it stands still, and was perhaps carried
-      pub close_still : (v : List ℕ) → p.0 < (start_of w Active).0 → ClosedNext u v p → Closed w v p true
-      close_still v l q₂ = record {
+      pub close_still : (v : List ℕ) → (role ≡ Active → ⊥) → ClosedNext u v p → Closed w v p true
+      close_still v n q₂ = record {
         inside = done_then closed_inside (next_inside q₂);
         none = λ z. absurd (true≢false z);
         live = λ z. (role, g, live);
         found = λ h first k. sym (is_there h first k);
-        holds = λ h first k z. elim (dec_lt p.0 (start_of w Younger).0) [
+        holds = λ h first k z. let l : p.0 < (start_of w Active).0 = earlier n in elim (dec_lt p.0 (start_of w Younger).0) [
           | yes b ↦
               let a = c.older l b in
               closed_older h first w v p k g l b (live_in Older a) (subst (λ (x : List ℕ). ClosedNext x v p) (history_words h first k Older a) q₂)

@@ -36,19 +36,22 @@ both e = absurd (cc)
 pub apart : {C : Type 0} {role : Role} (a b : Role) → role ≡ a → role ≡ b → (header_of a ≡ header_of b → ⊥) → C
 apart a b e f n = absurd (n (ap header_of (sym e ∙ f)))
 
--- `below`: there is no entry, or there is one
-module _ {w : List ℕ} (role : Role) {e : Extent} {low : Option ℕ} (own : e ≡ extent_of w role) (seen : Entered w e.lane e.height bottom low) where
+-- `below`: there is no entry, or there is one. Fewer words than a header's have room for no stack, and the lane read of them is empty
+module _ {w : List ℕ} {role : Role} {e : Extent} {low : Option ℕ} (read : Read w role e) (seen : Entered w e.lane e.height bottom low) where
   -- the look is at the lane that the header has
-  looked : Entered w (extent_of w role).lane (extent_of w role).height bottom low
-  looked = rw own at seen
+  looked : 32 ≤ length w → Entered w (extent_of w role).lane (extent_of w role).height bottom low
+  looked l = rw (read.own l) at seen
+
+  short : length w < 32 → low ≡ None
+  short l = seen.nothing (λ o m. omega (arith, ap (λ (i : Extent). i.height.0) (read.short l)))
 
   pub lower_none : (x : ℕ) → low ≡ None → LowerOf w role x x
-  lower_none x q = record { some = λ o l. both (sym (looked.shown o l) ∙ q); none = λ f. refl }
+  lower_none x q = record { some = λ o l. both (sym ((looked (omega (arith, o.wide))).shown o l) ∙ q); none = λ f. refl }
 
   pub lower_some : (x y r : ℕ) → low ≡ Some y → r ≡ min x y → LowerOf w role x r
   lower_some x y r q m = record {
-    some = λ o l. let same = sym q ∙ looked.shown o l in m ∙ ap (min x) cc;
-    none = λ f. both (sym q ∙ looked.nothing f);
+    some = λ o l. let same = sym q ∙ (looked (omega (arith, o.wide))).shown o l in m ∙ ap (min x) cc;
+    none = λ f. ⊎_elim (λ (s : length w < 32). both (sym q ∙ short s)) (λ (l : 32 ≤ length w). both (sym q ∙ (looked l).nothing f)) (lt_or_ge (length w) 32);
   }
 
 -- `close_carried`: the lane is the header's where it has a row

@@ -51,7 +51,6 @@ fn role_of(area: &[u64], p: Position) -> Role
 
 // The lower of a word and of the lowest entry of a role's lane.
 fn below(area: &[u64], role: Role, word: u64) -> u64
-    requires { 32 ≤ length area.now }
     ensures { LowerOf area.now role word result }
 {
     let e = layout::read(area, role);
@@ -66,7 +65,6 @@ fn below(area: &[u64], role: Role, word: u64) -> u64
 
 // A mark's minimum up to where the active lane starts, from its own lane's.
 fn up_to_start(area: &[u64], role: Role, word: u64) -> u64
-    requires { 32 ≤ length area.now }
     ensures { UpToStart area.now role word result }
 {
     match role {
@@ -79,7 +77,6 @@ fn up_to_start(area: &[u64], role: Role, word: u64) -> u64
 
 // A mark's minimum up to now, from its own lane's.
 fn up_to_now(area: &[u64], role: Role, word: u64) -> u64
-    requires { 32 ≤ length area.now }
     ensures { UpToNow area.now role word result }
 {
     match role {
@@ -118,10 +115,9 @@ pub fn close(area: &mut [u64], p: Position) -> bool
         return false;
     };
     table::release(area, e, held);
-    if area[4] <= p.0 as u64 {
-        return true;
+    if role != Role::Active {
+        close_carried(area, p);
     }
-    close_carried(area, p);
     true
 }
 
@@ -159,7 +155,6 @@ fn append(area: &mut [u64], e: Extent, p: Position, word: u64) -> Extent
 
 // A row is carried into the next lane, if its mark is active, with its minimum as a word.
 fn carry(area: &mut [u64], e: Extent, held: Held, word: u64)
-    requires { 32 ≤ length area.old }
     ensures { Carried area.old area.new e held word }
 {
     if !layout::has_room(area, e.rows.0) {
