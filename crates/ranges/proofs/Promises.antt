@@ -2,7 +2,7 @@
 use mathlib.Core.Path.{◌≡◌, refl, sym, ap, subst, ◌∙◌}
 use mathlib.Core.Bool.{Bool, true, false, cond, true≢false, false≢true}
 use mathlib.Core.List.{List, [], ◌∷◌}
-use mathlib.Core.Logic.{◌⊎◌, inl, inr, ⊎_elim}
+use mathlib.Core.Logic.{inl, inr, ⊎_elim}
 use Rattle.std.specs.Prelude.{Option, None, Some}
 use Rattle.std.proofs.Common.{◌++◌, replicate, take, drop}
 use Rattle.std.proofs.lemmas.List.{length-take-le}
@@ -215,9 +215,6 @@ module _ (w : List ℕ) (p : Position) (role : Role) (e : Extent) (own : e ≡ e
       -- its row is closed where there is room for the rows; where there is none, nothing is done
       closed_words : Room w ex.rows.0 → u ≡ released w ex.lane g
       closed_words room = rel_own.done room live.row
-
-      closed_lane : Room w ex.rows.0 ⊎ (u ≡ w)
-      closed_lane = ⊎_elim (λ (r : Room w ex.rows.0). inl r) (λ (n : Room w ex.rows.0 → ⊥). inr (rel_own.idle (λ r b. n r))) (room_or_not w ex.rows.0)
 
       closed_inside : Inside w u
       closed_inside = released_inside ex.lane ex.rows g rel_own
