@@ -11,18 +11,6 @@ use Rattle.layout.specs.Words.{Lower, after, least_word, header_of, extent_of, l
 use Rattle.stack.specs.Calls.{Entered, Advanced}
 use Rattle.ranges.specs.Private.{UpToStart, Carried, Stepped}
 
--- its run cannot be read
-pub step_lost : (w : List ℕ) (role : Role) (e : Extent) (at : ℕ) (low : Option ℕ) → e ≡ extent_of w role → at ≡ header_of role
-    → Entered w e.lane e.height (record { 0 = get_or w (at + 6) 0 }) low → low ≡ None → Stepped w w role
-step_lost w role e at low own start entered nothing =
-    let there : Entered w (extent_of w role).lane (extent_of w role).height (run_of w role) low = rw start at (rw own at entered) in
-    record {
-      done = λ l r u.
-          let x : None ≡ Some (least_word w (extent_of w role).lane (run_of w role)) = sym nothing ∙ there.shown r u in
-          absurd (cc);
-      idle = λ f. refl;
-    }
-
 -- it is carried
 stepped : (w words : List ℕ) (role : Role) (low : Option ℕ) (entry word : ℕ) (run : Place) → Lower (left_of w role) (extent_of w role).rows
     → Entered w (extent_of w role).lane (extent_of w role).height (run_of w role) low → low ≡ Some entry → UpToStart w role entry word
