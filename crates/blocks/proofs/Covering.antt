@@ -96,19 +96,12 @@ covers_both values index i a e f g l m s c d = record {
     go_to true = d.to
     go_to false = omega (arith, c.to)
 
--- the blocks that end at e or before it: all where e is the take's end, and else those that are full before e; never more than there are
+-- the blocks that end at e or before it: all where e is the take's end, and else those that are full before e
 pub before_end : (n e : ℕ) → e ≡ n → blocks_before n e ≡ block_count n
 before_end n e q = simp (eq-eqb e n q)
 
 pub before_inside : (n e : ℕ) → (e ≡ n → ⊥) → blocks_before n e ≡ e / 64
 before_inside n e q = simp (ne_eqb e n q)
-
-pub before_few : (n e : ℕ) → e ≤ n → blocks_before n e ≤ block_count n
-before_few n e h = go (eqb e n)
-  where
-    go : (t : Bool) → cond t (block_count n) (e / 64) ≤ block_count n
-    go true = omega arith
-    go false = omega arith
 
 -- where a block is wholly inside the range from i to before e, the first such begins in the range, and the last ends in it
 pub begins_inside : (n i e first end : ℕ) → e ≤ n → first ≡ block_count i → end ≡ blocks_before n e → first < end → (i ≤ 64 * first) × (64 * first < e)

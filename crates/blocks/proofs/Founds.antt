@@ -15,13 +15,14 @@ use Rattle.history.proofs.Parts.{moved, minimum-behind, minimum-append}
 use Rattle.blocks.specs.Takes.{from_zero, minimum_from}
 use Rattle.blocks.specs.Private.{shifted, lower_of}
 
+-- what is taken of the chosen of two is the chosen of what is taken of both
+pub chosen : {A B : Type 0} (f : A → B) (t : Bool) (x y : A) → f (cond t x y) ≡ cond t (f x) (f y)
+chosen f true x y = refl
+chosen f false x y = refl
+
 -- which of two is the lower does not depend on the count from 0
 from_zero-lower : (a b : Minimum) → from_zero (lower a b) ≡ lower_of (from_zero a) (from_zero b)
-from_zero-lower a b = go (takes_over b.value a.value)
-  where
-    go : (t : Bool) → from_zero (cond t b a) ≡ cond t (from_zero b) (from_zero a)
-    go true = refl
-    go false = refl
+from_zero-lower a b = chosen from_zero (takes_over b.value a.value) b a
 
 -- the first e values are the first b, and the part from there on
 front_split : (vs : List ℤ) (b e : ℕ) → b ≤ e → take e vs ≡ take b vs ++ take (e - b) (drop b vs)

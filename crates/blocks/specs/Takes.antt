@@ -4,7 +4,7 @@ use Rattle.std.specs.Prelude.{cond, ◌||◌, List, [], ◌∷◌, ℕ, zero, su
 use Rattle.history.specs.Minimum.{Minimum}
 use Rattle.history.specs.declared.Refusal.{Refusal}
 use Rattle.history.specs.Minima.{minimum}
-use Rattle.history.specs.Replies.{ToldOf, numbered, showing, number_of}
+use Rattle.history.specs.Replies.{ToldOf, numbered, showing, number_of, number_told}
 use Rattle.blocks.specs.Found.{Found}
 
 -- "numbered from 0": what stands at position k of a stream, counted from 1, stands at offset k − 1 of a take
@@ -61,11 +61,6 @@ search_refusal n m i j = index_refusal n m (range_refusal n i j)
 abbrev pub build_refusal : (n m : ℕ) → ℕ
 build_refusal n m = index_refusal n m 0
 
--- 14 and 15, of a search (points 3 and 6): the refusal that is due, by its number; 0: none is
-abbrev pub due_of : Result (Unit {0}) Refusal → ℕ
-due_of (Ok _) = 0
-due_of (Err why) = number_of why
-
 -- THE INDEX AFTER BUILDING, of one that was `before`: "Building writes every index entry"; with 15 it "writes nothing"
 abbrev pub built : (values before : List ℤ) → List ℤ
 built values before = cond (eqb (length before) (block_count (length values))) (block_minima values) before
@@ -84,8 +79,7 @@ told (Ok f) = showing f
 told (Err why) = numbered (number_of why)
 
 abbrev pub told_building : Result (Unit {0}) Refusal → Told
-told_building (Ok _) = numbered 0
-told_building (Err why) = numbered (number_of why)
+told_building r = numbered (number_told r)
 
 -- what the caller of a search is told, where f is what it finds: a refusal's number alone, or f
 abbrev pub answering : ℕ → Found → Told

@@ -7,7 +7,8 @@ ghost use Rattle.std.specs.Prelude.{◌≡◌, ◌+◌, ◌*◌, ◌^◌, ◌<�
 ghost use Rattle.std.specs.List.{position};
 ghost use Rattle.std.specs.Ordering.{int_eq};
 ghost use Rattle.history.specs.Minima.{takes_over};
-ghost use Rattle.blocks.specs.Takes.{minimum_from, block_of, block_count, blocks_before, search_refusal, least_of, due_of};
+ghost use Rattle.history.specs.Replies.{number_told};
+ghost use Rattle.blocks.specs.Takes.{minimum_from, block_of, block_count, blocks_before, search_refusal, least_of};
 ghost use Rattle.blocks.specs.Calls.{Builds, Searches, Stretches};
 ghost use Rattle.blocks.specs.Private.{PlaceOf, shifted, lower_of, OfBlocks, Covers};
 
@@ -188,7 +189,7 @@ impl<'a> Indexed<'a> {
 
 // What is due to a search of a take of so many values, with an index of so many entries, from `i` to `j`: 15 for an index of another length, then 14 for a range that the take does not have.
 pub fn due(values: usize, entries: usize, i: usize, j: usize) -> Result<(), Refusal>
-    ensures { due_of result ≡ search_refusal values entries i j }
+    ensures { number_told result ≡ search_refusal values entries i j }
 {
     if entries != block_count(values) {
         return Err(Refusal::OtherIndexLength);

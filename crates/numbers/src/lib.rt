@@ -25,9 +25,7 @@ pub fn read_values(bytes: &[u8], at: usize, values: &mut [i32])
     requires { at + 4 * length values.old ≤ length bytes.now }
     ensures { values.new ≡ values_from (length values.old) at bytes.now }
 {
-    let mut i = 0;
-    while i < values.len() {
-        values[i] = value_at(bytes, at + 4 * i);
-        i += 1;
+    for (i, value) in values.iter_mut().enumerate() {
+        *value = value_at(bytes, at + 4 * i);
     }
 }

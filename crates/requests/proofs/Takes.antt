@@ -21,7 +21,7 @@ use Rattle.history.specs.Minima.{lowest, Least}
 use Rattle.history.specs.Replies.{numbered, showing}
 use Rattle.history.proofs.Lowest.{least_only}
 use Rattle.blocks.specs.Found.{Found}
-use Rattle.blocks.specs.Takes.{from_zero, block_of, block_minima_from, block_minima, told}
+use Rattle.blocks.specs.Takes.{from_zero, block_of, block_minima_from, block_minima, told, told_building}
 use Rattle.blocks.specs.Calls.{Builds, Searches, Stretches}
 use Rattle.blocks.specs.Promises.{Point3, TellsLeast}
 use Rattle.blocks.specs.Examples.{searched, searches, indexed, indexes, stretched, stretches, SearchGives, BuildGives, StretchGives, Each}
@@ -98,7 +98,7 @@ first_search : (r : Result Found Refusal) → Searched (pos 3 ∷ pos 1 ∷ pos 
 unfolding lowest block_minima_from
 first_search r q = worked.searches_given.0 (pos 1 ∷ []) r q refl (λ n. refl)
 
-first_index : (before after : List ℤ) (r : Result (Unit {0}) Refusal) → Built [] before after r → length before ≡ 0 → (told r ≡ numbered 0) × (after ≡ [])
+first_index : (before after : List ℤ) (r : Result (Unit {0}) Refusal) → Built [] before after r → length before ≡ 0 → (told_building r ≡ numbered 0) × (after ≡ [])
 first_index before after r q n = worked.indexes_given.0 before after r q n
 
 second_stretch : (at start : ℕ × ℕ) (part : List ℤ) → Stretched at (pos 3 ∷ pos 1 ∷ pos 2 ∷ pos 1 ∷ []) 1 2 start part → part ≡ pos 1 ∷ pos 2 ∷ []
@@ -106,10 +106,10 @@ second_stretch at start part q = worked.stretches_given.1.0 at start part q
 
 -- BUILDING, of any take and any index. "Building writes every index entry and nothing else"; an index of another length gets 15, and is not written
 module _ (values before after : List ℤ) (r : Result (Unit {0}) Refusal) (q : Built values before after r) where
-  pub index_built : length before ≡ (length values + 63) / 64 → (told r ≡ numbered 0) × (after ≡ block_minima values)
+  pub index_built : length before ≡ (length values + 63) / 64 → (told_building r ≡ numbered 0) × (after ≡ block_minima values)
   index_built n = (functions.point_3.building values before after r q).writes n
 
-  pub index_refused : (length before ≡ (length values + 63) / 64 → ⊥) → (told r ≡ numbered 15) × (after ≡ before)
+  pub index_refused : (length before ≡ (length values + 63) / 64 → ⊥) → (told_building r ≡ numbered 15) × (after ≡ before)
   index_refused n = (functions.point_3.building values before after r q).refused n
 
 -- "An empty take has an empty index"

@@ -18,7 +18,7 @@ use denote.Struct.Field.{usize-field, u32-field, i32-field}
 use Rattle.blocks.specs.Found.{Found}
 use Rattle.std.specs.Prelude.{Result}
 use Rattle.history.specs.declared.Refusal.{Refusal}
-use Rattle.blocks.specs.Takes.{block_minima, told}
+use Rattle.blocks.specs.Takes.{block_minima, told, told_building}
 use Rattle.blocks.specs.Calls.{Builds, Searches, Stretches}
 use Rattle.blocks.specs.Promises.{TellsLeast, Point3}
 use Rattle.blocks.proofs.Point as point
@@ -142,7 +142,7 @@ built_and_searched values before after i j r b t l h =
     record { accepted = s.accepted; from = s.from; to = s.to; stands = s.stands; least = s.least; earliest = s.earliest }
 
 -- THE CONVERSES: no more is learnt of the functions that C calls than their contracts say, so that what stands above is of all that these allow
-build_told_of : (values before after : List ℤ) (a : Result (Unit {0}) Refusal) → Builds values before after a → BuildTold values before after (told a).number
+build_told_of : (values before after : List ℤ) (a : Result (Unit {0}) Refusal) → Builds values before after a → BuildTold values before after (told_building a).number
 build_told_of = steps.build_learnt_of
 
 search_told_of : (values index : List ℤ) (i j : ℕ) (a : Result Found Refusal) → Searches values index i j a → SearchTold values index i j (in_numbers (told a))

@@ -15,7 +15,7 @@ use Rattle.blocks.specs.Found.{Found}
 use Rattle.std.specs.Prelude.{Result}
 use Rattle.history.specs.declared.Refusal.{Refusal}
 use Rattle.history.specs.Replies.{showing}
-use Rattle.blocks.specs.Takes.{Told, block_count, block_minima, told}
+use Rattle.blocks.specs.Takes.{Told, block_count, block_minima, told, told_building}
 use Rattle.blocks.specs.Calls.{Builds, Searches, Stretches}
 use Rattle.blocks.specs.Promises.{TellsLeast, Point3}
 use Rattle.blocks.proofs.Point as point
@@ -96,7 +96,7 @@ module _ (values index : List ℤ) (i j : ℕ) (r : FoundNumbers) (t : SearchLea
 any : MutBor (List ℤ)
 any = record { ref_ptr = (0, 0); ghost_name = 0; now = [] }
 
-pub build_learnt_of : (values before after : List ℤ) (a : Result (Unit {0}) Refusal) → Builds values before after a → BuildLearnt values before after (told a).number
+pub build_learnt_of : (values before after : List ℤ) (a : Result (Unit {0}) Refusal) → Builds values before after a → BuildLearnt values before after (told_building a).number
 build_learnt_of values before after a d = (([], ([], tt)), (0, 0), any, record { reply = a; builds = d; number = refl })
 
 pub search_learnt_of : (values index : List ℤ) (i j : ℕ) (a : Result Found Refusal) → Searches values index i j a → SearchLearnt values index i j (in_numbers (told a))

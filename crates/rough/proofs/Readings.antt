@@ -38,6 +38,9 @@ cuts_at n i j r l h p q s t = record {
   values = rw (s, t, p, q) (edges n i j l h);
 }
 
+pub blocks_in_order : (n i j : ℕ) (r : Cuts) → CutsAt n i j r → (i / 64 ≤ r.inner) × (r.inner ≤ r.outer) × (r.outer ≤ j / 64 + 1)
+blocks_in_order n i j r t = t.blocks
+
 -- whether two numbers are below others alike
 same_test : (a b c d : ℕ) → (a < b → c < d) → (b ≤ a → d ≤ c) → ltb a b ≡ ltb c d
 same_test a b c d f g = elim (lt_or_ge a b) [ inl l ↦ lt-ltb a b l ∙ sym (lt-ltb c d (f l)) | inr l ↦ le-ltb a b l ∙ sym (le-ltb c d (g l)) ]

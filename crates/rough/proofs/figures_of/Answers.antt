@@ -3,7 +3,7 @@ use Rattle.std.proofs.Common.{◌+◌, ◌/◌, ◌∙◌, ap, arith, Some, w32}
 use mir.Facts.{to_z-of_z}
 use borrow.Author.Rules.{sfits_of}
 use Rattle.rough.proofs.Budgets.{EntriesSeen, entries_in, ValuesSeen, values_in}
-use Rattle.rough.proofs.Readings.{reading, entries_shown, high_shown}
+use Rattle.rough.proofs.Readings.{blocks_in_order, reading, entries_shown, high_shown}
 use Rattle.rough.proofs.figures_of.Goals as goal
 use Rattle.rough.proofs.figures_of.Goals.{After-lower-high}
 
@@ -12,7 +12,7 @@ entries : (c : After-lower-high)
     → EntriesSeen c.args.stored.index.now (c.args.i / 64) c.cut-cuts.result.inner c.cut-cuts.result.outer (c.args.j / 64 + 1) c.args.budget c.look_at_entries-entries.result
 entries c =
     let s = c.args.stored in
-    let k = c.cut-cuts.ensures.blocks in
+    let k = blocks_in_order (length s.take.now) c.args.i c.args.j c.cut-cuts.result c.cut-cuts.ensures in
     entries_in s.index.now (c.args.i / 64) c.cut-cuts.result.inner c.cut-cuts.result.outer (c.args.j / 64 + 1) c.args.budget c.look_at_entries-entries.result k.0 k.1 k.2
     (omega (arith, s.fitting, c.requires.1)) c.look_at_entries-entries.ensures
 
