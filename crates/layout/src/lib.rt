@@ -40,6 +40,7 @@ pub enum Role {
 }
 
 // A lane, how many rows are in use, how many there is room for, and how high its stack is.
+// All that outlives a call stands in the words that the caller lends: so lists are numbers of rows beside words there, and links are numbers of rows.
 #[derive(Clone, Copy)]
 pub struct Extent {
     pub lane: Lane,

@@ -2,7 +2,7 @@
 use mathlib.Core.Path.{◌≡◌, refl, sym, ap, subst, ◌∙◌}
 use mathlib.Core.Bool.{Bool, true, false, cond, true≢false, false≢true}
 use mathlib.Core.List.{List, [], ◌∷◌}
-use mathlib.Core.Logic.{◌⊎◌, inl, inr, ⊎_elim}
+use mathlib.Core.Logic.{inl, inr, ⊎_elim}
 use Rattle.std.specs.Prelude.{Option, None, Some}
 use Rattle.std.proofs.Common.{◌++◌, replicate, take, drop}
 use Rattle.std.proofs.lemmas.List.{length-take-le}
@@ -48,11 +48,7 @@ use Rattle.ranges.proofs.Joining.{ready, joined_holds}
 pub long_enough : {h : History} {first w : List ℕ} → Holds h first w → 64 ≤ length w
 long_enough k = omega (arith, k.laid.roomy, k.laid.active.linked.room.wide)
 
--- AN OPENING
-pub open_short : (w : List ℕ) → length w < 576 → Opened w w
-open_short w l = record { inside = nothing_done refl; short = λ b. refl; holds = λ b. absurd (omega arith) }
-
--- the first n words are zeros, and all behind them are as they were
+-- AN OPENING: the first n words are zeros, and all behind them are as they were
 abbrev cleared : ℕ → List ℕ → List ℕ
 cleared n w = replicate n 0 ++ drop n w
 
@@ -78,9 +74,6 @@ open_done w u l e =
     })
 
 -- A VALUE
-pub value_short : (w : List ℕ) (m : Minimum) → length w < 32 → Valued w w m
-value_short w m l = record { inside = nothing_done refl; holds = λ h first k. absurd (omega (arith, long_enough k)) }
-
 pub value_done : (w u : List ℕ) (m : Minimum) (e : Extent) (word : ℕ) (r : Place) → 32 ≤ length w → e ≡ extent_of w Active → word ≡ packed m → unpacked word ≡ m → Lowered w u e.lane e.height word r
     → Valued w (set u 3 r.0) m
 value_done w u m e word r l own packs back q = record {
@@ -103,9 +96,6 @@ nothing_shown w p f = record {
   shown = λ m e. no_minimum e;
   holds = λ h first k. sym (ap (λ (b : Bool). cond b (Some (minimum h.values p)) None) (f h first k));
 }
-
-pub look_short : (w : List ℕ) (p : Position) → length w < 32 → LookedUp w p None
-look_short w p l = nothing_shown w p (λ h first k. absurd (omega (arith, long_enough k)))
 
 -- a word is an entry of some lane's stack
 abbrev Entry : List ℕ → ℕ → Type 0
@@ -216,9 +206,6 @@ module _ (w : List ℕ) (p : Position) (role : Role) (e : Extent) (own : e ≡ e
       closed_words : Room w ex.rows.0 → u ≡ released w ex.lane g
       closed_words room = rel_own.done room live.row
 
-      closed_lane : Room w ex.rows.0 ⊎ (u ≡ w)
-      closed_lane = ⊎_elim (λ (r : Room w ex.rows.0). inl r) (λ (n : Room w ex.rows.0 → ⊥). inr (rel_own.idle (λ r b. n r))) (room_or_not w ex.rows.0)
-
       closed_inside : Inside w u
       closed_inside = released_inside ex.lane ex.rows g rel_own
 
@@ -267,10 +254,6 @@ close_none w p f = record {
   found = λ h first k. sym (f h first k);
   holds = λ h first k z. absurd (false≢true z);
 }
-
--- A MARK
-pub mark_short : (w : List ℕ) (active : ℕ) (p : Position) (m : Minimum) → length w < 32 → Marked w w active p m
-mark_short w active p m l = record { inside = nothing_done refl; holds = λ h first y k. absurd (omega (arith, long_enough k)) }
 
 pub mark_done : (w u x v : List ℕ) (active word : ℕ) (p : Position) (m : Minimum) (e r : Extent) → 32 ≤ length w → Turned w u active p → e ≡ extent_of u Active → word ≡ packed m → unpacked word ≡ m
     → Appended u x e p word r → Shared (puts (record { at = 1; to = r.rows.0 } ∷ record { at = 3; to = r.height.0 } ∷ []) x) v → Marked w v active p m

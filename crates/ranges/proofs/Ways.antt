@@ -18,7 +18,7 @@ use Rattle.layout.specs.declared.Role.TheVariants.{Next}
 use Rattle.layout.specs.Words.{after, bottom, header_of, extent_of}
 use Rattle.layout.specs.Frames.{Kind, Within}
 use Rattle.layout.specs.Calls.{Read}
-use Rattle.layout.proofs.Written.{untouched, and_then}
+use Rattle.layout.proofs.Written.{and_then}
 use Rattle.table.specs.Marks.{by_insertion, inserted}
 use Rattle.table.specs.Calls.{Sought, Inserted, Released}
 use Rattle.table.proofs.Insertion.{insertion_within}
@@ -94,16 +94,6 @@ within_more written i l = record {
 }
 
 module _ {w : List ℕ} {e : Extent} {p : Position} {x : ℕ} where
-  -- there is no row to spare
-  pub appends_nothing : (Spare w e → ⊥) → Appended w w e p x e
-  appends_nothing n = record {
-    within = untouched every_kind e.lane e.capacity w;
-    idle = λ m. (refl, refl);
-    same = (refl, refl);
-    more = λ s. absurd (n s);
-    grows = λ values a l o z b m f. absurd (n (record { room = a.linked.room; row = l; high = a.stacked.low }));
-  }
-
   -- the row is inserted and its minimum pushed
   pub appends : {u v : List ℕ} {top : Place} → Spare w e → Inserted w u e.lane e.rows e.capacity p → Pushed u v e.lane e.height e.rows x top
       → Appended w v e p x (record { lane = e.lane; rows = after e.rows; capacity = e.capacity; height = top })

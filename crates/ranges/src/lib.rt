@@ -36,6 +36,8 @@ pub fn value(area: &mut [u64], m: Minimum)
 }
 
 // The role of the lane in which a position's mark stands.
+// That the words have a header is asked of callers, here and below: a struct over the words with that as a ghost field proves too, but each of its methods that writes would have to say
+// that the words are the same ones still, a clause for a clause.
 fn role_of(area: &[u64], p: Position) -> Role
     requires { 32 ≤ length area.now }
     ensures { Chosen area.now p result }

@@ -13,10 +13,6 @@ use Rattle.stack.specs.Private.{Located}
 use Rattle.stack.proofs.Runs.{covers_rests, rests_unique}
 use Rattle.stack.proofs.Rooms.{room_below}
 
--- with no room there is nothing to look at
-pub unseen : {w : List ℕ} {k : Lane} {height : Place} {h : Held} → (Room w height.0 → ⊥) → Looked w k height h None
-unseen n = record { nothing = λ f. refl; shown = λ o l. absurd (n o); right = λ rows o s l x q. absurd (n (room_below o s.low)) }
-
 -- the entry at the row's place is its word
 pub seen : {w : List ℕ} {k : Lane} {height t : Place} {h : Held} {r : Option ℕ} → Room w height.0 → Located w k height h t → Entered w k height t r → Looked w k height h r
 seen {t = t} o p e = record {

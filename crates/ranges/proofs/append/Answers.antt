@@ -1,11 +1,8 @@
 -- `ranges::append` meets its contract: its tests are the clauses of `Spare`, and past them the row is inserted and its minimum pushed.
 use native.Mathlib.Omega.{arith}
 use Rattle.std.proofs.lemmas.Bool.Decides.{nat_tests}
-use Rattle.ranges.proofs.Ways.{appends_nothing, appends}
+use Rattle.ranges.proofs.Ways.{appends}
 use Rattle.ranges.proofs.append.Goals as goal
-
-pub returns-then-not-has_room : goal.returns-then-not-has_room
-returns-then-not-has_room c = appends_nothing (λ s. c.has_room.ensures.no c.if-not-has_room.true s.room)
 
 pub returns : goal.returns
 returns c =

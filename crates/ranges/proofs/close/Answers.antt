@@ -4,11 +4,8 @@ use mathlib.Core.Bool.{false≢true}
 use native.Mathlib.Omega.{arith}
 use borrow.Author.Rules.{rules}
 use Rattle.layout.specs.declared.Role.TheVariants.{Active}
-use Rattle.ranges.proofs.Promises.{long_enough, not_there, close_none, close_active, close_still}
+use Rattle.ranges.proofs.Promises.{not_there, close_none, close_active, close_still}
 use Rattle.ranges.proofs.close.Goals as goal
-
-pub returns-then-area-lt32 : goal.returns-then-area-lt32
-returns-then-area-lt32 c = close_none _ _ (λ h first k. absurd (omega (arith, long_enough k)))
 
 pub returns-in_default : goal.returns-in_default
 returns-in_default c =

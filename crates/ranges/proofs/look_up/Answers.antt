@@ -1,10 +1,7 @@
 -- `ranges::look_up` meets its contract: the lane is chosen by the position, the mark is found in its table, and its minimum is its stack's and that of the lanes after it.
 use native.Mathlib.Omega.{arith}
-use Rattle.ranges.proofs.Promises.{look_short, look_lost, look_none, look_done}
+use Rattle.ranges.proofs.Promises.{look_lost, look_none, look_done}
 use Rattle.ranges.proofs.look_up.Goals as goal
-
-pub returns-then-area-lt32 : goal.returns-then-area-lt32
-returns-then-area-lt32 c = look_short _ _ (omega arith)
 
 pub returns-in_err-held : goal.returns-in_err-held
 returns-in_err-held c =

@@ -2,11 +2,8 @@
 use native.Mathlib.Omega.{arith}
 use Rattle.std.proofs.Common.{sym}
 use Rattle.std.proofs.lemmas.List.{length-take-le}
-use Rattle.ranges.proofs.Promises.{open_short, open_done}
+use Rattle.ranges.proofs.Promises.{open_done}
 use Rattle.ranges.proofs.open.Goals as goal
-
-pub returns-then-area-lt576 : goal.returns-then-area-lt576
-returns-then-area-lt576 c = open_short _ (omega arith)
 
 pub slice_bounds-fill-end-2 : goal.slice_bounds-fill-end-2
 slice_bounds-fill-end-2 c = sym (length-take-le 32 c.args.area.now (omega arith))

@@ -1,10 +1,7 @@
 -- `ranges::value` meets its contract: the active lane's stack has lowered every entry above the value, which is the law `value_done`.
 use native.Mathlib.Omega.{arith}
-use Rattle.ranges.proofs.Promises.{value_short, value_done}
+use Rattle.ranges.proofs.Promises.{value_done}
 use Rattle.ranges.proofs.value.Goals as goal
-
-pub returns-then-area-lt32 : goal.returns-then-area-lt32
-returns-then-area-lt32 c = value_short _ _ (omega arith)
 
 pub returns : goal.returns
 returns c =
