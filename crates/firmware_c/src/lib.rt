@@ -1,4 +1,5 @@
 // The library for the pedal's C firmware: each function of include/filkotar.h under its name, with the promise of the crate `firmware`, which it calls.
+// Each stands here once more for the C interface: a static library exports what its own crate declares, and nothing that it only passes on.
 #![tactic(auto)]
 
 ghost use Rattle.std.specs.Prelude.{◌≡◌};

@@ -1,5 +1,5 @@
 -- `rough::figures_of` meets its contract: the parts that are looked at are those of the definition's list.
-use Rattle.std.proofs.Common.{◌+◌, ◌/◌, ◌∙◌, ap, arith, Some, w32}
+use Rattle.std.proofs.Common.{◌+◌, ◌/◌, ◌∙◌, ap, arith, Some, w32, length}
 use mir.Facts.{to_z-of_z}
 use borrow.Author.Rules.{sfits_of}
 use Rattle.rough.proofs.Budgets.{EntriesSeen, entries_in, ValuesSeen, values_in}
