@@ -162,13 +162,15 @@ def used():
     if not re.search(r"\npub fn transition_of\([^{]*\n\s+ensures [^\n]*\n\{\n    by_section_2\(event, standing\)\n\}\n", text(CODE)):
         wrong.append(f"{CODE}: the body of `transition_of` is not `by_section_2(event, standing)`")
     engine = text("crates/engine/src/lib.rt")
-    for name in ["value", "mark", "close"]:
+    for name in ["take_value", "take_mark", "take_close"]:
         if body(engine, name).count("history::transition_of(") != 1:
             wrong.append(f"crates/engine: `{name}` does not call `transition_of` once")
+        if body(engine, name.removeprefix("take_")).count(f"{name}(s, area") != 1:
+            wrong.append(f"crates/engine: `{name.removeprefix('take_')}` does not call `{name}` once")
 
 
 def elsewhere():
-    """The engine names a standing in `by_section_2` and in the opening, which has none; else it only hands standings on, by the type's own name."""
+    """The engine names a standing in `by_section_2` and in the unopened session, which has none; else it only hands standings on, by the type's own name."""
     stands_on = dict(line.split(":") for line in text("crates.txt").splitlines() if line and not line.startswith("#"))
     opening = 0
     for crate in ["engine"] + stands_on["engine"].split():
@@ -182,8 +184,8 @@ def elsewhere():
                     opening += 1
                 elif re.search(r"::(None|Unmarked|Marked|Closed)\b|\bStanding\s*(::|as\b)|\b(type\b.*|impl) Standing\b", code):
                     wrong.append(f"{path} chooses or tests a standing: {code}")
-    if opening != 2:
-        wrong.append(f"crates/engine: {opening} places have the standing none, and not the opening's two")
+    if opening != 1:
+        wrong.append(f"crates/engine: {opening} places have the standing none, and not the unopened session's one")
 
 
 def main():

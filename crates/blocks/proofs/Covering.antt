@@ -3,19 +3,20 @@ use mathlib.Core.Path.{◌≡◌, refl, sym, ap, ◌∙◌}
 use mathlib.Core.Bool.{Bool, true, false, cond}
 use mathlib.Core.List.{List}
 use Prim.Native.Nat.{ℕ, suc, ◌+◌, ◌*◌, ◌-◌, ◌/◌, ◌<◌, ◌≤◌}
+use native.Mathlib.Decide.{ℕ_discrete}
 use native.Mathlib.Omega.{arith}
-use lib.Dec.{eqb, ltb}
+use lib.Dec.{eqb}
 use lib.IntN.{ℤ}
 use lib.ListN.{length, take, drop, length-take, length-drop}
 use lib.Seq.{length-take-le, take_all}
-use borrow.Author.Tests.{ltb-true, ltb-false, eqb-true, eq-eqb, ne_eqb}
+use borrow.Author.Tests.{eq-eqb, eqb-true, ne_eqb}
 use Rattle.history.specs.Minima.{takes_over}
 use Rattle.history.proofs.Lowest.{minimum_least}
 use Rattle.blocks.specs.declared.Offset.{Offset}
-use Rattle.blocks.specs.declared.Found.{Found}
+use Rattle.blocks.specs.Found.{Found}
 use Rattle.blocks.specs.Takes.{minimum_from, block_of, block_count, blocks_before, block_minima}
-use Rattle.blocks.specs.Private.{PlaceOf, lower_of, with_left, with_right, Covers, OfBlocks}
-use Rattle.blocks.proofs.Founds.{joined, shifted, handed_on}
+use Rattle.blocks.specs.Private.{PlaceOf, shifted, lower_of, Covers, OfBlocks}
+use Rattle.blocks.proofs.Founds.{joined, handed_on}
 use Rattle.blocks.proofs.Indexes.{in_block, Agree, agree}
 
 -- how long block b is
@@ -33,11 +34,12 @@ found_within vs a e l s =
     let stands = minimum_least (take e vs) (record { 0 = a + 1 }) (omega arith) (omega arith) in
     (omega (arith, stands.from), omega (arith, stands.from, stands.to))
 
--- an edge's part, whatever the index holds
-pub covers_edge : (values index : List ℤ) (a e : ℕ) (f : Found) → a < e → e ≤ length values → f ≡ minimum_from (take e values) a → Covers values index a e f
-covers_edge values index a e f l s q =
+-- a part of the take that is looked through itself, whatever the index holds
+pub covers_part : (values index : List ℤ) (a e : ℕ) (f : Found) → a < e → e ≤ length values → f ≡ shifted a (minimum_from (take (e - a) (drop a values)) 0) → Covers values index a e f
+covers_part values index a e f l s q =
+    let r : f ≡ minimum_from (take e values) a = q ∙ sym (handed_on values a e l (omega arith)) in
     let w = found_within values a e l s in
-    record { from = rw q w.0; to = rw q w.1; correct = λ _. q }
+    record { from = rw r w.0; to = rw r w.1; correct = λ _. r }
 
 -- THE BLOCKS WHOLLY INSIDE: their entries' least, v, stands in the block that is `rel` behind the first, and p is its place there
 pub of_blocks : (values index : List ℤ) (first end : ℕ) (v : ℤ) (rel : ℕ) (p : Offset) → first < end → end ≤ length index → length index ≡ block_count (length values)
@@ -76,8 +78,8 @@ covers_end values index first end f h o = record {
 pub covers_blocks : (values index : List ℤ) (first end : ℕ) (f : Found) → OfBlocks values index first end f → Covers values index (64 * first) (64 * end) f
 covers_blocks values index first end f o = record { from = o.from; to = o.to; correct = o.correct }
 
--- two ranges, one behind the other
-covers_both : (values index : List ℤ) (i a e : ℕ) (f g : Found) → i < a → a < e → e ≤ length values → Covers values index i a f → Covers values index a e g
+-- TWO RANGES, one behind the other
+pub covers_both : (values index : List ℤ) (i a e : ℕ) (f g : Found) → i < a → a < e → e ≤ length values → Covers values index i a f → Covers values index a e g
     → Covers values index i e (lower_of f g)
 covers_both values index i a e f g l m s c d = record {
   from = go_from (takes_over g.value f.value);
@@ -94,41 +96,12 @@ covers_both values index i a e f g l m s c d = record {
     go_to true = d.to
     go_to false = omega (arith, c.to)
 
--- AN EDGE BEFORE what is found, or none
-pub covers_left : (values index : List ℤ) (i a e : ℕ) (f : Found) → i ≤ a → a < e → e ≤ length values → Covers values index a e f
-    → Covers values index i e (with_left values i a f)
-covers_left values index i a e f l m s c = go (ltb i a) refl
-  where
-    go : (t : Bool) → ltb i a ≡ t → Covers values index i e (cond t (lower_of (minimum_from (take a values) i) f) f)
-    go true q =
-        let b = ltb-true i a q in
-        covers_both values index i a e (minimum_from (take a values) i) f b m s (covers_edge values index i a (minimum_from (take a values) i) b (omega arith) refl) c
-    go false q = let b = ltb-false i a q in let same : a ≡ i = omega arith in rw same at c
-
--- AN EDGE BEHIND it, or none
-pub covers_right : (values index : List ℤ) (i a e : ℕ) (f : Found) → i < a → a ≤ e → e ≤ length values → Covers values index i a f
-    → Covers values index i e (with_right values a e f)
-covers_right values index i a e f l m s c = go (ltb a e) refl
-  where
-    go : (t : Bool) → ltb a e ≡ t → Covers values index i e (cond t (lower_of f (minimum_from (take e values) a)) f)
-    go true q =
-        let b = ltb-true a e q in
-        covers_both values index i a e f (minimum_from (take e values) a) l b s c (covers_edge values index a e (minimum_from (take e values) a) b s refl)
-    go false q = let b = ltb-false a e q in let same : a ≡ e = omega arith in rw same at c
-
--- the blocks that end at e or before it: all where e is the take's end, and else those that are full before e; never more than there are
+-- the blocks that end at e or before it: all where e is the take's end, and else those that are full before e
 pub before_end : (n e : ℕ) → e ≡ n → blocks_before n e ≡ block_count n
 before_end n e q = simp (eq-eqb e n q)
 
 pub before_inside : (n e : ℕ) → (e ≡ n → ⊥) → blocks_before n e ≡ e / 64
 before_inside n e q = simp (ne_eqb e n q)
-
-pub before_few : (n e : ℕ) → e ≤ n → blocks_before n e ≤ block_count n
-before_few n e h = go (eqb e n)
-  where
-    go : (t : Bool) → cond t (block_count n) (e / 64) ≤ block_count n
-    go true = omega arith
-    go false = omega arith
 
 -- where a block is wholly inside the range from i to before e, the first such begins in the range, and the last ends in it
 pub begins_inside : (n i e first end : ℕ) → e ≤ n → first ≡ block_count i → end ≡ blocks_before n e → first < end → (i ≤ 64 * first) × (64 * first < e)
@@ -138,5 +111,10 @@ begins_inside n i e first end h f q l = (omega arith, go (eqb e n) refl (rw q at
     go true b m = omega (arith, eqb-true e n b)
     go false b m = omega arith
 
-pub ends_inside : (n e end : ℕ) → (e ≡ n → ⊥) → end ≡ blocks_before n e → 64 * end ≤ e
-ends_inside n e end d q = let b = before_inside n e d in omega arith
+-- and where it does not end before e, the blocks end with the range
+pub covers_to : (values index : List ℤ) (first end e : ℕ) (f : Found) → e ≤ length values → end ≡ blocks_before (length values) e → e ≤ 64 * end → OfBlocks values index first end f
+    → Covers values index (64 * first) e f
+covers_to values index first end e f h q l o = elim (ℕ_discrete e (length values)) [
+  | yes s ↦ rw s (covers_end values index first end f (omega (arith, l, s)) o)
+  | no d ↦ let b = before_inside (length values) e d in let same : e ≡ 64 * end = omega (arith, b, q, l) in rw same (covers_blocks values index first end f o)
+]

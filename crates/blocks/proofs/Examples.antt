@@ -7,7 +7,9 @@ use lib.IntN.{ℤ}
 use lib.ListN.{length}
 use borrow.Author.Tests.{ne_eqb}
 use Rattle.history.specs.Minima.{lowest}
-use Rattle.blocks.specs.declared.Reply.{Reply}
+use Rattle.std.specs.Prelude.{Result}
+use Rattle.history.specs.declared.Refusal.{Refusal}
+use Rattle.blocks.specs.Found.{Found}
 use Rattle.blocks.specs.Takes.{range_minimum, block_count, block_minima_from, block_minima, search_refusal, told, answering}
 use Rattle.blocks.specs.Calls.{Searches}
 use Rattle.blocks.specs.Promises.{Fitting}
@@ -30,7 +32,7 @@ pub stretches_worked : map stretched stretches ≡ stretches
 stretches_worked = refl
 
 -- what a search is told where its index is the take's, if it has as many entries
-answers : (values index : List ℤ) (i j : ℕ) (r : Reply) → Searches values index i j r → (Fitting values index → index ≡ block_minima values)
+answers : (values index : List ℤ) (i j : ℕ) (r : Result Found Refusal) → Searches values index i j r → (Fitting values index → index ≡ block_minima values)
     → told r ≡ answering (search_refusal (length values) (length index) i j) (range_minimum values i j)
 answers values index i j r d f = elim (ℕ_discrete (length index) (block_count (length values))) [
   | yes n ↦ d.tells ∙ ap (answering (search_refusal (length values) (length index) i j)) (d.choice.correct (f n))

@@ -12,17 +12,17 @@ use Rattle.history.specs.Minimum.{Minimum}
 use Rattle.history.specs.Minima.{takes_over, lower, minimum}
 use Rattle.history.proofs.Lowest.{minimum_least}
 use Rattle.history.proofs.Parts.{moved, minimum-behind, minimum-append}
-use Rattle.blocks.specs.declared.Found.{Found}
 use Rattle.blocks.specs.Takes.{from_zero, minimum_from}
-use Rattle.blocks.specs.Private.{lower_of}
+use Rattle.blocks.specs.Private.{shifted, lower_of}
+
+-- what is taken of the chosen of two is the chosen of what is taken of both
+pub chosen : {A B : Type 0} (f : A → B) (t : Bool) (x y : A) → f (cond t x y) ≡ cond t (f x) (f y)
+chosen f true x y = refl
+chosen f false x y = refl
 
 -- which of two is the lower does not depend on the count from 0
 from_zero-lower : (a b : Minimum) → from_zero (lower a b) ≡ lower_of (from_zero a) (from_zero b)
-from_zero-lower a b = go (takes_over b.value a.value)
-  where
-    go : (t : Bool) → from_zero (cond t b a) ≡ cond t (from_zero b) (from_zero a)
-    go true = refl
-    go false = refl
+from_zero-lower a b = chosen from_zero (takes_over b.value a.value) b a
 
 -- the first e values are the first b, and the part from there on
 front_split : (vs : List ℤ) (b e : ℕ) → b ≤ e → take e vs ≡ take b vs ++ take (e - b) (drop b vs)
@@ -40,10 +40,6 @@ joined vs a b e l m s =
     let q : minimum (take e vs) (record { 0 = a + 1 }) ≡ lower (minimum (take b vs) (record { 0 = a + 1 })) (minimum (take e vs) (record { 0 = b + 1 })) =
     rw (n, ← front_split vs b e (omega arith)) at both in
     ap from_zero q ∙ from_zero-lower (minimum (take b vs) (record { 0 = a + 1 })) (minimum (take e vs) (record { 0 = b + 1 }))
-
--- what is found in a part that starts at a, as it is counted in the whole
-abbrev pub shifted : ℕ → Found → Found
-shifted a f = record { value = f.value; place = record { 0 = a + f.place.0 } }
 
 -- A PART HANDED ON: "whose place is relative: add a"
 pub handed_on : (vs : List ℤ) (a e : ℕ) → a < e → a < length vs → minimum_from (take e vs) a ≡ shifted a (minimum_from (take (e - a) (drop a vs)) 0)

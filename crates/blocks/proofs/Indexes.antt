@@ -1,18 +1,22 @@
 -- The index of a take: how many entries it has, which each is, and that the least of some blocks stands in the block whose entry is the least of theirs.
 use mathlib.Core.Path.{◌≡◌, refl, sym, ap, ◌∙◌}
-use mathlib.Core.Bool.{Bool, true, false, cond}
+use mathlib.Core.Bool.{Bool, true, false, cond, not}
 use mathlib.Core.List.{List, [], ◌∷◌, ◌++◌}
-use Prim.Native.Nat.{ℕ, zero, suc, ◌+◌, ◌*◌, ◌-◌, ◌<◌, ◌≤◌}
+use Prim.Native.Nat.{ℕ, zero, suc, ◌+◌, ◌*◌, ◌-◌, ◌<◌, ◌≤◌, min}
 use native.Mathlib.Omega.{arith}
 use lib.IntN.{ℤ, pos}
-use lib.ListN.{length, get_or, set, take}
-use lib.Seq.{take-suc, take-suc-set, take_all, length-take-le, get_or-take}
+use lib.ListN.{length, get_or, set, take, drop, length-take, length-drop}
+use lib.Seq.{take-suc, take-suc-set, take_all, length-take-le, get_or-take, get_or-drop, drop-drop, take-append_seam, drop-append_seam}
+use Rattle.std.proofs.lemmas.List.{take_min, drop_min}
 use Rattle.history.specs.Minima.{takes_over, stands_at, minimum}
-use Rattle.history.proofs.Lowest.{minimum_new}
-use Rattle.blocks.specs.declared.Found.{Found}
+use Rattle.std.specs.Int.Signed.{le_z}
+use Rattle.laws.proofs.Order.{le_z_antisym, lt_z_le_z}
+use Rattle.history.specs.declared.Position.{Position}
+use Rattle.history.proofs.Lowest.{minimum_new, minimum_least}
+use Rattle.blocks.specs.Found.{Found}
 use Rattle.blocks.specs.Takes.{from_zero, minimum_from, block_of, block_count, block_minima_from, block_minima}
-use Rattle.blocks.specs.Private.{lower_of}
-use Rattle.blocks.proofs.Founds.{joined, shifted, handed_on}
+use Rattle.blocks.specs.Private.{shifted, lower_of}
+use Rattle.blocks.proofs.Founds.{joined, handed_on}
 
 length_entries : (n b : ℕ) (values : List ℤ) → length (block_minima_from n b values) ≡ n
 unfolding block_minima_from
@@ -50,6 +54,18 @@ built_more values w b v l h e q =
 
 pub built_all : (values w : List ℤ) (b : ℕ) → block_count (length values) ≤ b → length w ≤ b → take b w ≡ take b (block_minima values) → w ≡ block_minima values
 built_all values w b h l q = sym (take_all b w l) ∙ q ∙ take_all b (block_minima values) (omega (arith, length_index values))
+
+-- the blocks as `chunks` hands them out: the next one, and what is left behind it
+pub next_block : (values part rest : List ℤ) (b : ℕ) → drop (64 * b) values ≡ part ++ rest → length part ≡ min 64 (length (drop (64 * b) values))
+    → (part ≡ block_of values b) × (rest ≡ drop (64 * (b + 1)) values)
+next_block values part rest b q n =
+    let all : List ℤ = drop (64 * b) values in
+    let front : take (length part) all ≡ part = ap (take (length part)) q ∙ take-append_seam part rest in
+    let back : drop (length part) all ≡ rest = ap (drop (length part)) q ∙ drop-append_seam part rest in
+    let next : 64 * b + 64 ≡ 64 * (b + 1) = omega arith in (
+      sym front ∙ ap (λ (k : ℕ). take k all) n ∙ take_min 64 all,
+      sym back ∙ ap (λ (k : ℕ). drop k all) n ∙ drop_min 64 all ∙ drop-drop 64 (64 * b) values ∙ ap (λ (k : ℕ). drop k values) next,
+    )
 
 -- of one value, that value there
 pub one_value : (vs : List ℤ) (k : ℕ) → k < length vs → minimum_from (take (k + 1) vs) k ≡ record { value = get_or vs k (pos 0); place = record { 0 = k } }
@@ -94,6 +110,48 @@ leading_more values b at v new t h l e q =
     go : (t : Bool) → minimum_from (take (64 * (b + 1)) values) 0 ≡ cond t (in_block values b) (in_block values at) → Leading values (b + 1) (cond t b at) (cond t new v)
     go true w = record { some = omega arith; value = e; whole = w }
     go false w = record { some = omega (arith, l.some); value = l.value; whole = w }
+
+-- before the first block, its first value stands for its least
+abbrev pub Led : List ℤ → ℕ → ℕ → ℤ → Type 0
+Led values b at v = (b ≡ 0 → (at ≡ 0) × (v ≡ get_or values 0 (pos 0))) × (0 < b → Leading values b at v)
+
+-- it is no lower than that, so that where the least does not take over, they are equal
+first_is_least : (values : List ℤ) (v new : ℤ) → 0 < length values → v ≡ get_or values 0 (pos 0) → new ≡ (minimum_from (block_of values 0) 0).value → takes_over new v ≡ false → v ≡ new
+first_is_least values v new h q e f =
+    let one : Position = record { 0 = 1 } in
+    let long = length-take 64 (drop (64 * 0) values) in
+    let rest = length-drop (64 * 0) values in
+    let m = minimum_least (block_of values 0) one (omega arith) (omega (arith, long, rest)) in
+    let same : get_or (block_of values 0) 0 (pos 0) ≡ v = get_or-take 64 (drop (64 * 0) values) 0 (pos 0) (omega arith) ∙ get_or-drop (64 * 0) values 0 (pos 0) ∙ sym q in
+    let below : le_z new v ≡ true = rw (e, sym same) (m.least one (omega arith) (omega (arith, long, rest))) in
+    let above : not (le_z v new) ≡ false = sym (lt_z_le_z new v) ∙ f in
+    le_z_antisym v new (not_false (le_z v new) above) below
+  where
+    not_false : (b : Bool) → not b ≡ false → b ≡ true
+    not_false true z = refl
+    not_false false z = cc
+
+pub led_more : (values : List ℤ) (b at : ℕ) (v new : ℤ) (t : Bool) → 64 * b < length values → Led values b at v → new ≡ (minimum_from (block_of values b) 0).value
+    → takes_over new v ≡ t → Leading values (b + 1) (cond t b at) (cond t new v)
+led_more values (suc b) at v new t h l e q = leading_more values (suc b) at v new t h (l.1 (omega arith)) e q
+led_more values zero at v new t h l e q = go t q
+  where
+    start : (at ≡ 0) × (v ≡ get_or values 0 (pos 0))
+    start = l.0 refl
+
+    go : (t : Bool) → takes_over new v ≡ t → Leading values 1 (cond t 0 at) (cond t new v)
+    go true q = leading_one values new (omega arith) e
+    go false q = rw start.0 (leading_one values v (omega arith) (first_is_least values v new (omega arith) start.1 e q ∙ e))
+
+-- a turn over the blocks that `chunks` hands out: n are behind it, and the next is `part`
+pub led_turn : (values part left right : List ℤ) (n m at : ℕ) (v new : ℤ) (t : Bool) → left ≡ drop (64 * n) values → left ≡ part ++ right → length part ≡ min 64 (length left) → 0 < length left
+    → m ≡ n + 1 → Led values n at v → new ≡ (minimum_from part 0).value → takes_over new v ≡ t
+    → (right ≡ drop (64 * m) values) × (m ≤ block_count (length values)) × Leading values m (cond t n at) (cond t new v)
+led_turn values part left right n m at v new t q split long some one l e asked =
+    let next = next_block values part right n (sym q ∙ split) (long ∙ ap (λ (xs : List ℤ). min 64 (length xs)) q) in
+    let inside : 64 * n < length values = omega (arith, some, ap length q, length-drop (64 * n) values) in
+    let least : new ≡ (minimum_from (block_of values n) 0).value = e ∙ ap (λ (xs : List ℤ). (minimum_from xs 0).value) next.0 in
+    (rw one next.1, omega (arith, inside, one), rw one (led_more values n at v new t inside l least asked))
 
 -- of all blocks, and so of all values, with the place in the block
 pub leading_all : (values : List ℤ) (b at p : ℕ) (v : ℤ) → length values ≤ 64 * b → Leading values b at v → p ≡ (minimum_from (block_of values at) 0).place.0

@@ -11,7 +11,9 @@ use borrow.Author.Tests.{eq-eqb, ne_eqb}
 use Rattle.laws.proofs.Tests.{lt_or_ge}
 use Rattle.history.specs.Minima.{minimum}
 use Rattle.history.proofs.Lowest.{minimum_least}
-use Rattle.blocks.specs.declared.Reply.{Reply}
+use Rattle.std.specs.Prelude.{Result}
+use Rattle.history.specs.declared.Refusal.{Refusal}
+use Rattle.blocks.specs.Found.{Found}
 use Rattle.blocks.specs.Takes.{block_of, block_count, range_refusal, search_refusal}
 use Rattle.blocks.specs.Calls.{Builds, Searches, Stretches}
 use Rattle.blocks.specs.Promises.{BuildSays, SearchSays, StretchSays, Fitting, Outside, EveryIndex, EveryBuild, EverySearch, EveryStretch, Point3}
@@ -30,7 +32,7 @@ every_index values = record {
   shorter = λ b h l. omega (arith, length-take 64 (drop (64 * b) values), length-drop (64 * b) values);
 }
 
-every_build : (values before after : List ℤ) (r : Reply) → Builds values before after r → EveryBuild values before after r
+every_build : (values before after : List ℤ) (r : Result (Unit {0}) Refusal) → Builds values before after r → EveryBuild values before after r
 every_build values before after r d = record {
   writes = λ n. let e = eq-eqb (length before) (block_count (length values)) n in (simp e at d.tells, simp e at d.writes);
   refused = λ n. let e = ne_eqb (length before) (block_count (length values)) n in (simp e at d.tells, simp e at d.writes);
@@ -41,7 +43,7 @@ pub outside_range : (values : List ℤ) (i j : ℕ) → Outside values i j → r
 outside_range values i j (inl l) = exceeds (length values) i j l
 outside_range values i j (inr l) = elim (lt_or_ge j i) [ inl m ↦ exceeds (length values) i j m | inr m ↦ not_below (length values) i j m l ]
 
-module _ (values index : List ℤ) (i j : ℕ) (r : Reply) (d : Searches values index i j r) where
+module _ (values index : List ℤ) (i j : ℕ) (r : Result Found Refusal) (d : Searches values index i j r) where
   accepted_search : Fitting values index → i ≤ j → j < length values → search_refusal (length values) (length index) i j ≡ 0
   accepted_search n l h = simp (eq-eqb (length index) (block_count (length values)) n, in_range (length values) i j l h)
 
@@ -79,8 +81,8 @@ every_stretch at values i j start part d = record {
 
 -- of functions of which at least the contracts are known
 pub point_3 : (builds : BuildSays) (searches : SearchSays) (stretches : StretchSays)
-    → ((values before after : List ℤ) (r : Reply) → builds values before after r → Builds values before after r)
-    → ((values index : List ℤ) (i j : ℕ) (r : Reply) → searches values index i j r → Searches values index i j r)
+    → ((values before after : List ℤ) (r : Result (Unit {0}) Refusal) → builds values before after r → Builds values before after r)
+    → ((values index : List ℤ) (i j : ℕ) (r : Result Found Refusal) → searches values index i j r → Searches values index i j r)
     → ((at : ℕ × ℕ) (values : List ℤ) (i j : ℕ) (start : ℕ × ℕ) (part : List ℤ) → stretches at values i j start part → Stretches at values i j start part)
     → Point3 builds searches stretches
 point_3 builds searches stretches b s t = record {

@@ -3,7 +3,7 @@ use mathlib.Core.Path.{◌≡◌, refl, sym, ap, ◌∙◌}
 use mathlib.Core.Bool.{Bool, true, false, cond}
 use mathlib.Core.List.{List, [], ◌∷◌}
 use mathlib.Core.Logic.{inl, inr}
-use mathlib.Core.Option.{none, some}
+use Rattle.std.specs.Prelude.{Some}
 use Prim.Native.Nat.{ℕ, zero, suc, ◌+◌, ◌-◌, ◌<◌, ◌≤◌, max}
 use native.Mathlib.Omega.{arith}
 use lib.IntN.{ℤ, pos}
@@ -16,6 +16,7 @@ use Rattle.history.specs.Minimum.{Minimum}
 use Rattle.history.specs.Minima.{takes_over, lower, stands_at, next, lowest, present_at, minimum, Least}
 use Rattle.history.proofs.Lowest.{minimum_more, minimum_least}
 use Rattle.blocks.specs.Takes.{minimum_from, least_of}
+use Rattle.blocks.proofs.Founds.{chosen}
 
 abbrev first : Position
 first = record { 0 = 1 }
@@ -31,10 +32,6 @@ alone (v ∷ vs) h = refl
 
 pub so_far_first : (vs : List ℤ) → 0 < length vs → LeastSoFar vs 0 (get_or vs 0 (pos 0))
 so_far_first vs h = sym (alone vs h)
-
-value_of : (b : Bool) (d e : Minimum) → (cond b e d).value ≡ cond b e.value d.value
-value_of true d e = refl
-value_of false d e = refl
 
 -- one value more
 pub so_far_more : (vs : List ℤ) (k : ℕ) (m : ℤ) → k < length vs → LeastSoFar vs k m
@@ -54,7 +51,7 @@ so_far_more vs (suc k) m h e =
     rw (take-suc vs (suc k) (pos 0) h) (minimum_more (take (suc k) vs) v first (omega arith) (omega (arith, n))) in
     let q : m ≡ d.value = rw now at e in
     rw (later, q)
-    (sym (ap (λ (x : Minimum). x.value) more ∙ value_of (takes_over v d.value) d (stands_at v (next (present_at (take (suc k) vs))))))
+    (sym (ap (λ (x : Minimum). x.value) more ∙ chosen (λ (x : Minimum). x.value) (takes_over v d.value) (stands_at v (next (present_at (take (suc k) vs)))) d))
 
 -- the least stands where it is found, and every value before it is higher
 module _ (vs : List ℤ) (h : 0 < length vs) where
@@ -76,11 +73,7 @@ module _ (vs : List ℤ) (h : 0 < length vs) where
         clash (le_z_refl m.value) (rw (back, e) at higher)
   ]
 
--- of no values there is no least, and of some there is
-pub least_none : (vs : List ℤ) → length vs ≡ 0 → least_of vs ≡ none
-least_none [] e = refl
-least_none (v ∷ vs) e = absurd (omega (arith, e))
-
-pub least_some : (vs : List ℤ) → 0 < length vs → least_of vs ≡ some (minimum_from vs 0).value
+-- of some values there is a least
+pub least_some : (vs : List ℤ) → 0 < length vs → least_of vs ≡ Some (minimum_from vs 0).value
 least_some [] h = absurd (omega (arith, h))
 least_some (v ∷ vs) h = refl

@@ -5,7 +5,9 @@ use Prim.Native.Nat.{ℕ}
 use lib.IntN.{ℤ}
 use contract.Lifetimes.{Lfts}
 use denote.Ref.{MutBor, at_last}
-use Rattle.blocks.specs.declared.Reply.{Reply}
+use Rattle.std.specs.Prelude.{Result}
+use Rattle.history.specs.declared.Refusal.{Refusal}
+use Rattle.blocks.specs.Found.{Found}
 use Rattle.blocks.specs.Calls.{Builds, Searches, Stretches}
 use Rattle.blocks.specs.Promises.{BuildSays, SearchSays, StretchSays}
 use Rattle.blocks.proofs.build.Reads as build-reads
@@ -29,10 +31,10 @@ Stretched at values i j start part =
     (κs : Lfts 1)
     × stretch-reads.Learnt κs (record { ref_ptr = at; now = values }, (i, (j, tt))) (record { ref_ptr = start; now = part }) (record { ref_ptr = at; now = values }, (i, (j, tt)))
 
-pub builds : (values before after : List ℤ) (r : Reply) → Built values before after r → Builds values before after r
+pub builds : (values before after : List ℤ) (r : Result (Unit {0}) Refusal) → Built values before after r → Builds values before after r
 builds values before after r (κs, x, y, d) = d
 
-pub searches : (values index : List ℤ) (i j : ℕ) (r : Reply) → Searched values index i j r → Searches values index i j r
+pub searches : (values index : List ℤ) (i j : ℕ) (r : Result Found Refusal) → Searched values index i j r → Searches values index i j r
 searches values index i j r (κs, x, y, d) = d
 
 pub stretches : (at : ℕ × ℕ) (values : List ℤ) (i j : ℕ) (start : ℕ × ℕ) (part : List ℤ) → Stretched at values i j start part → Stretches at values i j start part
@@ -42,10 +44,10 @@ stretches at values i j start part (κs, d) = d
 any : MutBor (List ℤ)
 any = record { ref_ptr = (0, 0); ghost_name = 0; now = [] }
 
-pub built_of : (values before after : List ℤ) (r : Reply) → Builds values before after r → Built values before after r
+pub built_of : (values before after : List ℤ) (r : Result (Unit {0}) Refusal) → Builds values before after r → Built values before after r
 built_of values before after r d = (([], ([], tt)), (0, 0), any, d)
 
-pub searched_of : (values index : List ℤ) (i j : ℕ) (r : Reply) → Searches values index i j r → Searched values index i j r
+pub searched_of : (values index : List ℤ) (i j : ℕ) (r : Result Found Refusal) → Searches values index i j r → Searched values index i j r
 searched_of values index i j r d = (([], ([], tt)), (0, 0), (0, 0), d)
 
 pub stretched_of : (at : ℕ × ℕ) (values : List ℤ) (i j : ℕ) (start : ℕ × ℕ) (part : List ℤ) → Stretches at values i j start part → Stretched at values i j start part

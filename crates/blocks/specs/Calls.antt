@@ -1,14 +1,14 @@
 -- The contracts of the public calls: `Builds` of `build`, `Searches` of `search`, `Stretches` of `stretch`. They hold of every take and every index. A take, and the index of a search, are lent
 -- for reading only, so that no call can alter them. That a call stays in bounds and ends, whatever the index holds, is what the checker shows of every function.
-use Rattle.std.specs.Prelude.{◌≡◌, cond, List, ℕ, ◌+◌, ◌*◌, ◌≤◌, eqb, ℤ, length}
+use Rattle.std.specs.Prelude.{◌≡◌, cond, List, ℕ, ◌+◌, ◌*◌, ◌≤◌, eqb, ℤ, length, Result}
+use Rattle.history.specs.declared.Refusal.{Refusal}
 use Rattle.history.specs.Replies.{numbered}
-use Rattle.blocks.specs.declared.Found.{Found}
-use Rattle.blocks.specs.declared.Reply.{Reply}
-use Rattle.blocks.specs.Takes.{range_minimum, block_minima, range_refusal, build_refusal, search_refusal, built, stretch_of, told, answering}
+use Rattle.blocks.specs.Found.{Found}
+use Rattle.blocks.specs.Takes.{range_minimum, block_minima, range_refusal, build_refusal, search_refusal, built, stretch_of, told, told_building, answering}
 
 -- "Building writes every index entry and nothing else": the index is then the take's, whatever it held. "15 .. also when building, which then writes nothing"
-pub record Builds (values before after : List ℤ) (r : Reply) : Type 0 where
-  pub tells : told r ≡ numbered (build_refusal (length values) (length before))
+pub record Builds (values before after : List ℤ) (r : Result (Unit {0}) Refusal) : Type 0 where
+  pub tells : told_building r ≡ numbered (build_refusal (length values) (length before))
   pub writes : after ≡ built values before
 
 -- what a search may show. Over an index built from that take it is the definition's; "otherwise the search stays in bounds, and the value and place shown are its own choice": the value is
@@ -18,7 +18,7 @@ pub record Choice (values index : List ℤ) (i j : ℕ) (f : Found) : Type 0 whe
   pub correct : index ≡ block_minima values → f ≡ range_minimum values i j
 
 -- the number is determined, whatever the index holds; so is that a refusal shows nothing, and that an accepted search shows a value and a place. Where it is refused, `shows` is not shown
-pub record Searches (values index : List ℤ) (i j : ℕ) (r : Reply) : Type 0 where
+pub record Searches (values index : List ℤ) (i j : ℕ) (r : Result Found Refusal) : Type 0 where
   pub shows : Found
   pub choice : Choice values index i j shows
   pub tells : told r ≡ answering (search_refusal (length values) (length index) i j) shows

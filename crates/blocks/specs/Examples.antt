@@ -1,9 +1,10 @@
 -- Worked examples of stored takes: what searches are told, what an index is, and what a stretch is. That the definitions work them out so are the theorems `searches_worked`, `indexes_worked` and
 -- `stretches_worked` of proofs/Examples; that every call of the functions gives them, `searches_given`, `indexes_given` and `stretches_given`.
-use Rattle.std.specs.Prelude.{◌≡◌, List, [], ◌∷◌, ◌++◌, ℕ, ℤ, pos, negsuc, length, replicate}
+use Rattle.std.specs.Prelude.{◌≡◌, List, [], ◌∷◌, ◌++◌, ℕ, ℤ, pos, negsuc, length, replicate, Result}
+use Rattle.history.specs.declared.Refusal.{Refusal}
 use Rattle.history.specs.Replies.{numbered, showing}
-use Rattle.blocks.specs.declared.Reply.{Reply}
-use Rattle.blocks.specs.Takes.{Told, range_minimum, block_minima, search_refusal, stretch_of, told, answering}
+use Rattle.blocks.specs.Found.{Found}
+use Rattle.blocks.specs.Takes.{Told, range_minimum, block_minima, search_refusal, stretch_of, told, told_building, answering}
 use Rattle.blocks.specs.Promises.{BuildSays, SearchSays, StretchSays, Fitting}
 
 -- a take, how many entries its index has, the range from i to j, and what the search is told
@@ -144,11 +145,11 @@ stretches =
 -- that lies anywhere
 abbrev pub SearchGives : SearchSays → Search → Type 0
 SearchGives says e =
-    (index : List ℤ) (r : Reply) → says e.values index e.i e.j r → length index ≡ e.entries → (Fitting e.values index → index ≡ block_minima e.values)
+    (index : List ℤ) (r : Result Found Refusal) → says e.values index e.i e.j r → length index ≡ e.entries → (Fitting e.values index → index ≡ block_minima e.values)
     → told r ≡ e.tells
 
 abbrev pub BuildGives : BuildSays → Index → Type 0
-BuildGives says e = (before after : List ℤ) (r : Reply) → says e.values before after r → length before ≡ length e.entries → (told r ≡ numbered 0) × (after ≡ e.entries)
+BuildGives says e = (before after : List ℤ) (r : Result (Unit {0}) Refusal) → says e.values before after r → length before ≡ length e.entries → (told_building r ≡ numbered 0) × (after ≡ e.entries)
 
 abbrev pub StretchGives : StretchSays → Stretch → Type 0
 StretchGives says e = (at : ℕ × ℕ) (start : ℕ × ℕ) (part : List ℤ) → says at e.values e.i e.j start part → part ≡ e.part

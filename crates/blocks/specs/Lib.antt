@@ -1,3 +1,4 @@
+pub mod Found
 pub mod Takes
 pub mod Calls
 pub mod Promises

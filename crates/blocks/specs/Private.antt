@@ -1,8 +1,8 @@
 -- The contracts of the private functions: what is found in a part of a take, and how the parts of a range come together.
-use Rattle.std.specs.Prelude.{◌≡◌, cond, List, ℕ, ◌*◌, ◌<◌, ◌≤◌, ltb, ℤ, length, take}
+use Rattle.std.specs.Prelude.{◌≡◌, cond, List, ℕ, ◌+◌, ◌*◌, ◌<◌, ◌≤◌, ℤ, length, take}
 use Rattle.history.specs.Minima.{takes_over}
 use Rattle.blocks.specs.declared.Offset.{Offset}
-use Rattle.blocks.specs.declared.Found.{Found}
+use Rattle.blocks.specs.Found.{Found}
 use Rattle.blocks.specs.Takes.{minimum_from, block_minima}
 
 -- `place_of`: an offset of the values; where v is the least of them, the earliest where it stands
@@ -14,12 +14,9 @@ pub record PlaceOf (values : List ℤ) (v : ℤ) (r : Offset) : Type 0 where
 abbrev pub lower_of : Found → Found → Found
 lower_of earlier later = cond (takes_over later.value earlier.value) later earlier
 
--- an edge block's part before what is found, and one behind it, where there are such parts
-abbrev pub with_left : List ℤ → (i a : ℕ) → Found → Found
-with_left values i a f = cond (ltb i a) (lower_of (minimum_from (take a values) i) f) f
-
-abbrev pub with_right : List ℤ → (a e : ℕ) → Found → Found
-with_right values a e f = cond (ltb a e) (lower_of f (minimum_from (take e values) a)) f
+-- `least_from`: what is found in a part that starts at a, as it is counted in the whole
+abbrev pub shifted : ℕ → Found → Found
+shifted a f = record { value = f.value; place = record { 0 = a + f.place.0 } }
 
 -- what is found in the range from a to before e: an offset of it, whatever the index holds; over an index built from the take, its least
 pub record Covers (values index : List ℤ) (a e : ℕ) (f : Found) : Type 0 where

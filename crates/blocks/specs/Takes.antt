@@ -1,15 +1,11 @@
 -- Document 02, point 3, stored takes: "a lent list of signed values numbered from 0". What is the least of a range, what an index holds, what is refused, and what a stretch is; with what the rough
--- reading of point 6 shares with a search. Of the program there are only declared types here: a minimum, an offset with what is found there, what is known of a least value, what is due, a
--- refusal and a reply. In these files a take is `values`; `take n` is of lists, their first n elements.
-use Rattle.std.specs.Prelude.{cond, ◌||◌, List, [], ◌∷◌, ℕ, zero, suc, ◌+◌, ◌*◌, ◌-◌, ◌/◌, eqb, leb, ltb, ℤ, length, take, drop}
-use Rattle.std.proofs.Math.Option.{Option, none, some}
+-- reading of point 6 shares with a search. Of the program there are only declared types here: a minimum, an offset with what is found there, and a refusal. In these files a take is `values`; `take n` is of lists, their first n elements.
+use Rattle.std.specs.Prelude.{cond, ◌||◌, List, [], ◌∷◌, ℕ, zero, suc, ◌+◌, ◌*◌, ◌-◌, ◌/◌, eqb, leb, ltb, ℤ, length, take, drop, Option, None, Some, Result, Ok, Err}
 use Rattle.history.specs.Minimum.{Minimum}
-use Rattle.history.specs.declared.Due.{Due}
+use Rattle.history.specs.declared.Refusal.{Refusal}
 use Rattle.history.specs.Minima.{minimum}
-use Rattle.history.specs.Replies.{ToldOf, numbered, showing, number_of}
-use Rattle.blocks.specs.declared.Found.{Found}
-use Rattle.blocks.specs.declared.Known.{Known}
-use Rattle.blocks.specs.declared.Reply.{Reply}
+use Rattle.history.specs.Replies.{ToldOf, numbered, showing, number_of, number_told}
+use Rattle.blocks.specs.Found.{Found}
 
 -- "numbered from 0": what stands at position k of a stream, counted from 1, stands at offset k − 1 of a take
 abbrev pub from_zero : Minimum → Found
@@ -20,14 +16,10 @@ from_zero m = record { value = m.value; place = record { 0 = m.place.0 - 1 } }
 abbrev pub minimum_from : List ℤ → ℕ → Found
 minimum_from values i = from_zero (minimum values (record { 0 = i + 1 }))
 
--- point 6, "the least known value", "with none known": the least of some values, where there are any; and what is known of it in the program
+-- point 6, "the least known value", "with none known": the least of some values, where there are any
 abbrev pub least_of : List ℤ → Option ℤ
-least_of [] = none
-least_of (v ∷ vs) = some (minimum_from (v ∷ vs) 0).value
-
-abbrev pub figure : Known → Option ℤ
-figure Known.Nothing = none
-figure (Known.Value v) = some v
+least_of [] = None
+least_of (v ∷ vs) = Some (minimum_from (v ∷ vs) 0).value
 
 -- THE ANSWER OF A SEARCH, "the least value from i to j", and of its places the earliest, no longer "its latest place": "The window and stored takes follow the same rule" (point 5). It is the
 -- least of the first j + 1 values, from offset i on, where i is at most j and j is below the take's length. No block is in it
@@ -69,11 +61,6 @@ search_refusal n m i j = index_refusal n m (range_refusal n i j)
 abbrev pub build_refusal : (n m : ℕ) → ℕ
 build_refusal n m = index_refusal n m 0
 
--- 14 and 15, of a search (points 3 and 6): the refusal that is due, by its number; 0: none is
-abbrev pub due_of : Due → ℕ
-due_of Due.Nothing = 0
-due_of (Due.Refused why) = number_of why
-
 -- THE INDEX AFTER BUILDING, of one that was `before`: "Building writes every index entry"; with 15 it "writes nothing"
 abbrev pub built : (values before : List ℤ) → List ℤ
 built values before = cond (eqb (length before) (block_count (length values))) (block_minima values) before
@@ -86,11 +73,13 @@ stretch_of values i j = cond (eqb (range_refusal (length values) i j) 0) (take (
 abbrev pub Told : Type 0
 Told = ToldOf Found
 
--- what each case of a reply tells
-abbrev pub told : Reply → Told
-told Reply.Accepted = numbered 0
-told (Reply.Lowest f) = showing f
-told (Reply.Refused why) = numbered (number_of why)
+-- what each case of a reply tells: of a search, and of building, which shows nothing
+abbrev pub told : Result Found Refusal → Told
+told (Ok f) = showing f
+told (Err why) = numbered (number_of why)
+
+abbrev pub told_building : Result (Unit {0}) Refusal → Told
+told_building r = numbered (number_told r)
 
 -- what the caller of a search is told, where f is what it finds: a refusal's number alone, or f
 abbrev pub answering : ℕ → Found → Told

@@ -14,8 +14,7 @@ ghost use Rattle.demands.specs.Private.{Commanded};
 use history::{Command, Position, Session};
 
 // The calls of `Witness.filling`. Two of them go through `apply`.
-fn filling(s: Session, area: &mut [u64]) -> Session
-    requires { length area.old ≡ 640 }
+fn filling(s: Session, area: &mut [u64; 640]) -> Session
     ensures { Commanded 640 s area.old area.new (asked Witness.filling) result }
 {
     let value = engine::value(s, area, 4);
@@ -29,8 +28,7 @@ fn filling(s: Session, area: &mut [u64]) -> Session
 }
 
 // The calls of `Witness.elsewhere` and those that follow. Words of another length are lent, and none.
-fn elsewhere(s: Session, area: &mut [u64], other: &mut [u64]) -> Session
-    requires { (length area.old ≡ 640) × (length other.old ≡ 641) }
+fn elsewhere(s: Session, area: &mut [u64; 640], other: &mut [u64; 641]) -> Session
     ensures { Commanded 640 s area.old area.new (asked (Witness.elsewhere ++ Witness.filling)) result }
 {
     let longer = engine::value(s, other, -9);
@@ -42,8 +40,7 @@ fn elsewhere(s: Session, area: &mut [u64], other: &mut [u64]) -> Session
 }
 
 // The calls of `Witness.marking` and those that follow.
-fn marking(s: Session, area: &mut [u64], other: &mut [u64]) -> Session
-    requires { (length area.old ≡ 640) × (length other.old ≡ 641) }
+fn marking(s: Session, area: &mut [u64; 640], other: &mut [u64; 641]) -> Session
     ensures { Commanded 640 s area.old area.new (asked lines) result }
 {
     let early = engine::mark(s, area);

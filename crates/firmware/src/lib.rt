@@ -9,10 +9,10 @@ ghost use Rattle.firmware.specs.Readings.{ReadsInNumbers};
 
 pub use readings::ReadingNumbers;
 pub use takes::FoundNumbers;
+use window::Window;
 pub use windows::{WindowNumbers, WindowOutcome};
 
 mod readings;
-mod replies;
 mod takes;
 mod windows;
 
@@ -29,7 +29,7 @@ pub extern "C" fn filkotar_gain(v: i32) -> u16
 pub extern "C" fn filkotar_window_open(area: &mut [u64], width: usize) -> WindowOutcome
     ensures { OpensInNumbers width area.old area.new result }
 {
-    windows::outcome_of(window::open(area, width))
+    WindowOutcome::from(window::open(area, width))
 }
 
 // The window's next value.
@@ -37,7 +37,7 @@ pub extern "C" fn filkotar_window_open(area: &mut [u64], width: usize) -> Window
 pub extern "C" fn filkotar_window_value(s: WindowNumbers, area: &mut [u64], v: i32) -> WindowOutcome
     ensures { DoesInNumbers s v area.old area.new result }
 {
-    windows::outcome_of(window::value(windows::window_from(s), area, v))
+    WindowOutcome::from(window::value(Window::from(s), area, v))
 }
 
 // Document 02, point 3: writes the index of a take.
@@ -45,7 +45,7 @@ pub extern "C" fn filkotar_window_value(s: WindowNumbers, area: &mut [u64], v: i
 pub extern "C" fn filkotar_build(take: &[i32], index: &mut [i32]) -> u32
     ensures { BuildsInNumbers take.now index.old index.new result }
 {
-    blocks::reply_number(blocks::build(take, index)) as u32
+    u32::from(history::reply_number(blocks::build(take, index)))
 }
 
 // The least value of a take from `i` to `j`, both included, and its place, where the index was built from that take.
@@ -53,7 +53,7 @@ pub extern "C" fn filkotar_build(take: &[i32], index: &mut [i32]) -> u32
 pub extern "C" fn filkotar_search(take: &[i32], index: &[i32], i: usize, j: usize) -> FoundNumbers
     ensures { SearchesInNumbers take.now index.now i j result }
 {
-    takes::found_of(blocks::search(take, index, i, j))
+    FoundNumbers::from(blocks::search(take, index, i, j))
 }
 
 // Document 02, point 6: a rough reading of a take from `i` to `j`, both included, with a budget of looks.
@@ -67,5 +67,5 @@ pub extern "C" fn filkotar_rough(
 ) -> ReadingNumbers
     ensures { ReadsInNumbers take.now index.now i j budget result }
 {
-    readings::reading_of(rough::read(take, index, i, j, budget))
+    ReadingNumbers::from(rough::read(take, index, i, j, budget))
 }

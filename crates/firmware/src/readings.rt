@@ -1,11 +1,10 @@
-// A rough reading as numbers.
+// A rough reading as numbers. `ReadingNumbers` stays a struct of numbers, with `known` beside `high`, for the C interface: C has no `Option` and no `Result`.
 ghost use Rattle.std.specs.Prelude.{◌≡◌};
-ghost use Rattle.blocks.specs.Takes.{figure};
 ghost use Rattle.rough.specs.Looks.{told};
-ghost use Rattle.firmware.specs.Readings.{shown_number, known_number, reading_in_numbers};
+ghost use Rattle.firmware.specs.Readings.{reading_in_numbers};
 
-use blocks::Known;
-use rough::Reading;
+use history::Refusal;
+use rough::Figures;
 
 // A rough reading's answer, C's `filkotar_reading`: the looks used, the reply's number, 1 where a high figure is known, and the figures that are shown, or zeros.
 #[repr(C)]
@@ -18,47 +17,26 @@ pub struct ReadingNumbers {
     pub low: i32,
 }
 
-// 1 where a figure is known, or 0.
-fn is_known(known: Known) -> u32
-    ensures { result ≡ known_number (figure known) }
-{
-    match known {
-        Known::Value(_) => 1,
-        Known::Nothing => 0,
-    }
-}
-
-// The figure that is known, or 0.
-fn shown(known: Known) -> i32
-    ensures { result ≡ shown_number (figure known) }
-{
-    match known {
-        Known::Value(v) => v,
-        Known::Nothing => 0,
-    }
-}
-
 // A reading in numbers.
-pub fn reading_of(reading: Reading) -> ReadingNumbers
-    ensures { result ≡ reading_in_numbers (told reading) }
-{
-    match reading {
-        Reading::Figures(figures) => {
-            let high = figures.high;
-            ReadingNumbers {
+impl From<Result<Figures, Refusal>> for ReadingNumbers {
+    ghost from_gives = { λ reading numbers. numbers ≡ reading_in_numbers (told reading) };
+
+    fn from(reading: Result<Figures, Refusal>) -> ReadingNumbers {
+        match reading {
+            Ok(figures) => ReadingNumbers {
                 looks: figures.looks,
                 number: 0,
-                known: is_known(high),
-                high: shown(high),
+                known: u32::from(figures.high.is_some()),
+                high: figures.high.unwrap_or(0),
                 low: figures.low,
-            }
+            },
+            Err(why) => ReadingNumbers {
+                looks: 0,
+                number: u32::from(u8::from(why)),
+                known: 0,
+                high: 0,
+                low: 0,
+            },
         }
-        Reading::Refused(why) => ReadingNumbers {
-            looks: 0,
-            number: history::number(why) as u32,
-            known: 0,
-            high: 0,
-            low: 0,
-        },
     }
 }

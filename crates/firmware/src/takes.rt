@@ -1,10 +1,10 @@
-// A stored take's replies as numbers.
+// A stored take's replies as numbers. `FoundNumbers` stays a struct of numbers for the C interface: C has no `Result`.
 ghost use Rattle.std.specs.Prelude.{◌≡◌};
-ghost use Rattle.std.proofs.Math.Option.{none};
 ghost use Rattle.blocks.specs.Takes.{told};
-ghost use Rattle.firmware.specs.Takes.{shown_of, in_numbers};
+ghost use Rattle.firmware.specs.Takes.{in_numbers};
 
-use blocks::{Found, Offset, Reply};
+use blocks::{Found, Offset};
+use history::Refusal;
 
 // A search's answer, C's `filkotar_found`: the reply's number, and the value and place that it shows, or zeros.
 #[repr(C)]
@@ -15,35 +15,22 @@ pub struct FoundNumbers {
     pub place: usize,
 }
 
-fn nothing() -> Found
-    ensures { result ≡ shown_of none }
-{
-    Found {
-        value: 0,
-        place: Offset(0),
-    }
-}
-
-// The value and the place that a reply shows, or zeros.
-fn shown(reply: Reply) -> Found
-    ensures { result ≡ shown_of (told reply).shown }
-{
-    match reply {
-        Reply::Accepted => nothing(),
-        Reply::Lowest(found) => found,
-        Reply::Refused(_) => nothing(),
-    }
-}
+// What C gets where nothing is shown.
+const NOTHING: Found = Found {
+    value: 0,
+    place: Offset(0),
+};
 
 // A reply in numbers.
-pub fn found_of(reply: Reply) -> FoundNumbers
-    ensures { result ≡ in_numbers (told reply) }
-{
-    let found = shown(reply);
-    let place = found.place;
-    FoundNumbers {
-        number: blocks::reply_number(reply) as u32,
-        value: found.value,
-        place: place.0,
+impl From<Result<Found, Refusal>> for FoundNumbers {
+    ghost from_gives = { λ reply numbers. numbers ≡ in_numbers (told reply) };
+
+    fn from(reply: Result<Found, Refusal>) -> FoundNumbers {
+        let found = reply.ok().unwrap_or(NOTHING);
+        FoundNumbers {
+            number: u32::from(history::reply_number(reply)),
+            value: found.value,
+            place: found.place.0,
+        }
     }
 }

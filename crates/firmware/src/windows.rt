@@ -1,10 +1,9 @@
-// A window's session and its answers as structs of numbers.
+// A window's session and its answers as structs of numbers. They stay structs of numbers for the C interface: C has no `Option` and no `Result`.
 ghost use Rattle.std.specs.Prelude.{◌≡◌};
 ghost use Rattle.firmware.specs.Windows.{window_from, outcome_of};
 
-use crate::replies;
-use history::Position;
-use window::{Answer, Window};
+use history::{Answer, Minimum, Position};
+use window::Window;
 
 // A session: C's `filkotar_window`.
 #[repr(C)]
@@ -25,34 +24,41 @@ pub struct WindowOutcome {
     pub place: u32,
 }
 
+// What C gets where nothing is shown.
+const NOTHING: Minimum = Minimum {
+    value: 0,
+    place: Position(0),
+};
+
 // The session that the numbers stand for.
-pub fn window_from(s: WindowNumbers) -> Window
-    ensures { result ≡ window_from s }
-{
-    Window {
-        words: s.words,
-        width: s.width,
-        present: Position(s.present),
+impl From<WindowNumbers> for Window {
+    ghost from_gives = { λ numbers session. session ≡ window_from numbers };
+
+    fn from(s: WindowNumbers) -> Window {
+        Window {
+            words: s.words,
+            width: s.width,
+            present: Position(s.present),
+        }
     }
 }
 
 // An answer of the window, in numbers.
-pub fn outcome_of(a: Answer) -> WindowOutcome
-    ensures { result ≡ outcome_of a }
-{
-    let session = a.session;
-    let present = session.present;
-    let reply = a.reply;
-    let shown = replies::shown(reply);
-    let place = shown.place;
-    WindowOutcome {
-        session: WindowNumbers {
-            words: session.words,
-            width: session.width,
-            present: present.0,
-        },
-        number: history::reply_number(reply) as u32,
-        value: shown.value,
-        place: place.0,
+impl From<Answer<Window>> for WindowOutcome {
+    ghost from_gives = { λ answer outcome. outcome ≡ outcome_of answer };
+
+    fn from(a: Answer<Window>) -> WindowOutcome {
+        let session = a.session;
+        let shown = a.reply.ok().flatten().unwrap_or(NOTHING);
+        WindowOutcome {
+            session: WindowNumbers {
+                words: session.words,
+                width: session.width,
+                present: session.present.0,
+            },
+            number: u32::from(history::reply_number(a.reply)),
+            value: shown.value,
+            place: shown.place.0,
+        }
     }
 }

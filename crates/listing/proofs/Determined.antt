@@ -8,7 +8,7 @@ use lib.Dec.{eqb}
 use lib.IntN.{ℤ}
 use lib.ListN.{length}
 use Rattle.history.specs.Replies.{numbered}
-use Rattle.blocks.specs.declared.Found.{Found}
+use Rattle.blocks.specs.Found.{Found}
 use Rattle.blocks.specs.Takes.{Told, range_minimum, block_count, block_minima, search_refusal, build_refusal, answering, built}
 use Rattle.blocks.specs.Calls.{Choice}
 use Rattle.text.specs.Stops.{stop_lines}

@@ -1,19 +1,23 @@
--- The text of values, one after the other, and that of a rough reading.
+-- What is known of the texts in a line: those of replies, of values one after the other, of 0, and how many digits a number has at most.
 use mathlib.Core.Path.{◌≡◌, refl, sym, ap, ◌∙◌}
 use mathlib.Core.List.{List, [], ◌∷◌, ◌++◌, append_assoc, append-nil}
-use Prim.Native.Nat.{ℕ, ◌+◌, ◌<◌, ◌≤◌}
+use Prim.Native.Nat.{ℕ, ◌+◌, ◌-◌, ◌<◌, ◌≤◌}
 use native.Mathlib.Numerals.{add-one}
+use native.Mathlib.Omega.{arith}
 use lib.IntN.{ℤ, pos}
 use lib.ListN.{length, take, get_or}
 use lib.Seq.{take-suc, take_all}
-use Rattle.blocks.specs.Takes.{figure}
-use Rattle.rough.specs.declared.Figures.{Figures}
-use Rattle.rough.specs.declared.Reading.{Reading}
-use Rattle.rough.specs.Looks.{refused_with, told}
-use Rattle.text.specs.Writing.{Adds, digits_within, decimal_of}
-use Rattle.text.specs.Parts.{value_text}
-use Rattle.text.proofs.Texts.{then}
-use Rattle.listing.specs.Lines.{values_text, figure_text, reading_text}
+use borrow.Author.Tests.{eq-eqb, ne_eqb}
+use Rattle.std.specs.Prelude.{Result, Ok, Err}
+use Rattle.history.specs.declared.Refusal.{Refusal}
+use Rattle.history.specs.Replies.{number_of}
+use Rattle.blocks.specs.Found.{Found}
+use Rattle.blocks.specs.Takes.{told, told_building}
+use Rattle.text.specs.Writing.{decimal_of}
+use Rattle.text.specs.Parts.{value_text, least_text, replied_text}
+use Rattle.text.proofs.Decimals as Decimals
+use Rattle.text.proofs.ReplyTexts as ReplyTexts
+use Rattle.listing.specs.Lines.{reply_text, values_text, ends_text}
 
 -- values, and one more
 values_append : (vs : List ℤ) (v : ℤ) → values_text (vs ++ (v ∷ [])) ≡ values_text vs ++ value_text v
@@ -28,17 +32,31 @@ values_next vs i l = rw (add-one i, take-suc vs i (pos 0) l) (values_append (tak
 pub values_all : (vs : List ℤ) (i : ℕ) → length vs ≤ i → values_text (take i vs) ≡ values_text vs
 values_all vs i l = ap values_text (take_all i vs l)
 
--- the digit of 0
-zero_text : decimal_of 0 ≡ 48 ∷ []
-unfolding digits_within
-zero_text = refl
+-- the first and the last of some values, where there are any
+pub ends_none : (part : List ℤ) → length part ≡ 0 → ends_text part ≡ []
+ends_none part e = rw (eq-eqb (length part) 0 e)
 
--- a rough reading that tells figures: 0 and the looks used, the high figure and the low one
-pub figures-told : {a b c d : List ℕ} {u v w x : ℕ} (figures : Figures) → Adds a u (48 ∷ 32 ∷ decimal_of figures.looks) b v
-    → Adds b v (figure_text (figure figures.high)) c w → Adds c w (value_text figures.low) d x → Adds a u (reading_text (told (Reading.Figures figures))) d x
-figures-told figures f g h = rw zero_text (then f (then g h))
+pub ends_some : (part : List ℤ) → (length part ≡ 0 → ⊥) → ends_text part ≡ value_text (get_or part 0 (pos 0)) ++ value_text (get_or part (length part - 1) (pos 0))
+ends_some part z = rw (ne_eqb (length part) 0 z)
 
--- and one that is refused: its number, no look and no figure
-pub refusal_told : {a b c : List ℕ} {u v w number due : ℕ} → number ≡ due → Adds a u (decimal_of number) b v → Adds b v (32 ∷ 48 ∷ 32 ∷ 45 ∷ 32 ∷ 45 ∷ []) c w
-    → Adds a u (reading_text (refused_with due)) c w
-refusal_told e f g = rw (zero_text, ← e) (then f g)
+-- what is put of a reply is what a caller is told: of building, which shows nothing, and of a search
+pub replied_building : (reply : Result (Unit {0}) Refusal) → replied_text (λ _. []) reply ≡ reply_text (told_building reply)
+replied_building (Ok shown) = refl
+replied_building (Err why) = sym (append-nil (decimal_of (number_of why)))
+
+pub replied_search : (reply : Result Found Refusal) → replied_text (λ (f : Found). least_text (λ place. place.0) f) reply ≡ reply_text (told reply)
+replied_search (Ok f) = refl
+replied_search (Err why) = sym (append-nil (decimal_of (number_of why)))
+
+-- 0 has one digit, a running number no more than five, a refusal's no more than three, and any no more than twenty
+pub zero_few : length (decimal_of 0) ≤ 1
+zero_few = Decimals.within 20 0 0 (omega arith)
+
+pub number_few : (n : ℕ) → n < 100000 → length (decimal_of n) ≤ 5
+number_few n l = Decimals.within 20 4 n (omega arith)
+
+pub refusal_few : (why : Refusal) → length (decimal_of (number_of why)) ≤ 3
+refusal_few why = ReplyTexts.number_few why
+
+pub word_few : (n : ℕ) → length (decimal_of n) ≤ 20
+word_few n = Decimals.word_few n

@@ -3,7 +3,7 @@
 -- of that search (`Choice`): over the take's index the least value of the range with its earliest place, over any other index of as many entries some value, and a place of the range. All else in the
 -- output is a function of the bytes, and so is what a rough reading tells, over an altered index too.
 use Rattle.std.specs.Prelude.{◌≡◌, List, [], ◌∷◌, map, ℕ, ℤ, pos}
-use Rattle.blocks.specs.declared.Found.{Found}
+use Rattle.blocks.specs.Found.{Found}
 use Rattle.blocks.specs.Takes.{range_minimum}
 use Rattle.blocks.specs.Calls.{Choice}
 use Rattle.listing.specs.declared.Request.{Request}

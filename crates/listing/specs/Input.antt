@@ -1,6 +1,5 @@
 -- The input of `lookup`: a take, the length of its index, and requests. The quotes are from its description, at the head of Output.
-use Rattle.std.specs.Prelude.{Bool, cond, ◌||◌, List, [], ◌∷◌, ℕ, zero, suc, ◌+◌, ◌*◌, ◌-◌, eqb, ltb, ℤ, length, get_or}
-use Rattle.std.proofs.Math.Option.{Option, none, some}
+use Rattle.std.specs.Prelude.{Bool, cond, ◌||◌, List, [], ◌∷◌, ℕ, zero, suc, ◌+◌, ◌*◌, ◌-◌, eqb, ltb, ℤ, length, get_or, Option, None, Some}
 use Rattle.signed.specs.TwosComplement.{signed_of}
 use Rattle.numbers.specs.FourBytes.{number_at, values_from}
 use Rattle.listing.specs.declared.Request.{Request}
@@ -29,22 +28,22 @@ no_take bytes = ltb 8192 (count_of bytes) || (ltb 256 (entries_of bytes) || ltb 
 -- index entry a the signed number b". Any other kind byte is unknown. "c is used by 03 alone"
 abbrev pub request_of : (kind a b c : ℕ) → Option Request
 request_of kind a b c =
-    cond (eqb kind 1) (some (Search a b))
-    (cond (eqb kind 2) (some (Stretch a b))
-    (cond (eqb kind 3) (some (Rough a b c))
-    (cond (eqb kind 4) (some (Set a (signed_of b)))
-    none)))
+    cond (eqb kind 1) (Some (Search a b))
+    (cond (eqb kind 2) (Some (Stretch a b))
+    (cond (eqb kind 3) (Some (Rough a b c))
+    (cond (eqb kind 4) (Some (Set a (signed_of b)))
+    None)))
 
 -- the request at an offset. There is none where "fewer than 13 bytes .. are left"
 abbrev pub request_at : List ℕ → ℕ → Option Request
 request_at bytes at =
-    cond (ltb (length bytes) (at + 13)) none
+    cond (ltb (length bytes) (at + 13)) None
     (request_of (get_or bytes at 0) (number_at bytes (at + 1)) (number_at bytes (at + 5)) (number_at bytes (at + 9)))
 
 -- a request, where there is one, and those behind it; where there is none, "it reads no more"
 abbrev pub goes_on : Option Request → (behind : List Request) → List Request
-goes_on none behind = []
-goes_on (some r) behind = r ∷ behind
+goes_on None behind = []
+goes_on (Some r) behind = r ∷ behind
 
 -- the requests from an offset on, `most` of them at most
 unfoldable pub requests_from : (most at : ℕ) → List ℕ → List Request

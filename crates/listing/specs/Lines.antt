@@ -1,8 +1,7 @@
 -- The lines that `lookup` prints, but for `stop`, which is `text Stops.stop_lines`; the quotes are from its description, at the head of Output. The parts of a line stand a space apart, and it
 -- ends with a line feed, as in the other programs.
-use Rattle.std.specs.Prelude.{cond, List, [], ◌∷◌, ◌++◌, ℕ, ◌-◌, eqb, ℤ, pos, length, get_or}
-use Rattle.std.proofs.Math.Option.{Option, none, some}
-use Rattle.blocks.specs.declared.Found.{Found}
+use Rattle.std.specs.Prelude.{cond, List, [], ◌∷◌, ◌++◌, ℕ, ◌-◌, eqb, ℤ, pos, length, get_or, Option, None, Some}
+use Rattle.blocks.specs.Found.{Found}
 use Rattle.blocks.specs.Takes.{Told}
 use Rattle.rough.specs.Looks.{ToldReading}
 use Rattle.text.specs.Writing.{decimal_of}
@@ -46,8 +45,8 @@ stretch_line number part =
 
 -- "the high figure or `-`, the low figure or `-`"
 abbrev pub figure_text : Option ℤ → List ℕ
-figure_text none = spaced (45 ∷ [])
-figure_text (some v) = value_text v
+figure_text None = spaced (45 ∷ [])
+figure_text (Some v) = value_text v
 
 -- "the reply, the looks used", and both figures
 abbrev pub reading_text : ToldReading → List ℕ

@@ -12,7 +12,7 @@
 -- `listing::write` leaves the output in an array; the program's `main` reads the bytes before and writes the array after.
 use Rattle.std.specs.Prelude.{cond, List, [], ◌∷◌, ◌++◌, ℕ, ◌+◌, ℤ, negsuc, length, take, set, replicate}
 use Rattle.history.specs.Replies.{numbered}
-use Rattle.blocks.specs.declared.Found.{Found}
+use Rattle.blocks.specs.Found.{Found}
 use Rattle.blocks.specs.Takes.{built, stretch_of, search_refusal, build_refusal, answering}
 use Rattle.rough.specs.Looks.{rough_reading}
 use Rattle.text.specs.Stops.{stop_lines}

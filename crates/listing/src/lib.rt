@@ -4,15 +4,18 @@
 mod lines;
 
 ghost use Rattle.std.specs.Prelude.{◌≡◌, ◌+◌, ◌*◌, ◌<◌, ◌≤◌, length, take};
+ghost use Rattle.std.specs.Iterator.{YieldsFirst, item_count};
 ghost use Rattle.io.specs.Counts.{IsPrefixLen};
-ghost use Rattle.listing.specs.Input.{request_at};
+ghost use Rattle.text.specs.Pages.{HasRoom};
+ghost use Rattle.listing.specs.Input.{request_at, requests_behind};
 ghost use Rattle.listing.specs.Choices.{Prints};
-ghost use Rattle.listing.specs.Private.{Headed, Heads, read_as, Performs, Follows, Holds, Plays};
+ghost use Rattle.listing.specs.Private.{Within, Headed, Heads, Performs, Follows, Holds, Plays};
 
 use numbers::number_at;
+use text::Page;
 
 // What is asked of a take: its least value over a range, a stretch of it, a rough reading of a range, or another number in its index.
-#[derive(Clone, Copy)]
+#[derive(Clone, Copy, PartialEq, Eq)]
 pub enum Request {
     Search {
         from: usize,
@@ -35,186 +38,176 @@ pub enum Request {
 
 // What the first bytes say: how many values a take has, and how many entries its index has.
 #[derive(Clone, Copy)]
-enum Heading {
-    Take { values: usize, entries: usize },
-    Nothing,
+struct Heading {
+    values: usize,
+    entries: usize,
 }
 
-// What reading at an offset finds.
-#[derive(Clone, Copy)]
-enum Reading {
-    Next(Request),
-    Nothing,
-}
-
-// How far the requests have been followed: how many were read, and how many bytes are written.
-#[derive(Clone, Copy)]
-struct Progress {
-    read: usize,
-    used: usize,
+// The number of the four bytes at an offset, if they are there and it is no more than `most`.
+fn number_within(bytes: &[u8], at: usize, most: usize) -> Option<usize>
+    requires { at < 4294967296 }
+    ensures { Within bytes.now at most result }
+{
+    if bytes.len() < at + 4 {
+        return None;
+    }
+    let number = number_at(bytes, at) as usize;
+    if number > most {
+        return None;
+    }
+    Some(number)
 }
 
 // There is no take of more than 8,192 values, with more than 256 entries, or whose requests would begin behind the bytes' end.
-fn read_heading(bytes: &[u8]) -> Heading
+fn read_heading(bytes: &[u8]) -> Option<Heading>
     ensures { Heads bytes.now result }
 {
-    if bytes.len() < 8 {
-        return Heading::Nothing;
-    }
-    let values = number_at(bytes, 0) as usize;
-    if values > 8192 {
-        return Heading::Nothing;
-    }
-    if bytes.len() < 8 + 4 * values {
-        return Heading::Nothing;
-    }
-    let entries = number_at(bytes, 4 + 4 * values) as usize;
-    if entries > 256 {
-        return Heading::Nothing;
-    }
-    Heading::Take { values, entries }
+    let values = number_within(bytes, 0, 8192)?;
+    let entries = number_within(bytes, 4 + 4 * values, 256)?;
+    Some(Heading { values, entries })
 }
 
 // The request at an offset, unless its kind is unknown or fewer than 13 bytes are left.
-fn request_at(bytes: &[u8], at: usize) -> Reading
+fn request_at(bytes: &[u8], at: usize) -> Option<Request>
     requires { at ≤ length bytes.now }
-    ensures { read_as result ≡ request_at bytes.now at }
+    ensures { result ≡ request_at bytes.now at }
 {
     if bytes.len() - at < 13 {
-        return Reading::Nothing;
+        return None;
     }
     let a = number_at(bytes, at + 1) as usize;
     let b = number_at(bytes, at + 5);
     let c = number_at(bytes, at + 9);
     match bytes[at] {
-        1 => Reading::Next(Request::Search {
+        1 => Some(Request::Search {
             from: a,
             to: b as usize,
         }),
-        2 => Reading::Next(Request::Stretch {
+        2 => Some(Request::Stretch {
             from: a,
             to: b as usize,
         }),
-        3 => Reading::Next(Request::Rough {
+        3 => Some(Request::Rough {
             from: a,
             to: b as usize,
             budget: c as usize,
         }),
-        4 => Reading::Next(Request::Set {
+        4 => Some(Request::Set {
             entry: a,
             value: signed::signed_of(b),
         }),
-        _ => Reading::Nothing,
-    }
-}
-
-// The n-th request, with its line, for which there is room.
-fn perform(
-    request: Request,
-    n: usize,
-    take: &[i32],
-    index: &mut [i32],
-    out: &mut [u8],
-    used: usize,
-) -> usize
-    requires { (n < 100000) × (used + 59 ≤ length out.old) }
-    ensures { Performs take.now index.old index.new n request out.old used out.new result }
-{
-    match request {
-        Request::Search { from, to } => lines::search(
-            out,
-            used,
-            n,
-            blocks::search(take, index, from, to),
-        ),
-        Request::Stretch { from, to } => lines::stretch(
-            out,
-            used,
-            n,
-            blocks::stretch(take, from, to),
-        ),
-        Request::Rough { from, to, budget } => lines::rough(
-            out,
-            used,
-            n,
-            rough::read(take, index, from, to, budget),
-        ),
-        Request::Set { entry, value } => {
-            if entry < index.len() {
-                index[entry] = value;
-            }
-            lines::set(out, used, n)
-        }
+        _ => None,
     }
 }
 
 // The requests from an offset on, one after the other, up to where there is none.
-fn follow(
-    bytes: &[u8],
-    start: usize,
-    take: &[i32],
-    index: &mut [i32],
-    out: &mut [u8],
-    written: usize,
-) -> Progress
-    requires { (start ≤ length bytes.now) × (length bytes.now ≤ start + 65528) × (written + 297360 ≤ length out.old) }
-    ensures { Follows take.now index.old bytes.now start out.old written out.new result }
+#[derive(Drop)]
+struct Reader<'a> {
+    bytes: &'a [u8],
+    at: usize,
+    ghost within: { at ≤ length bytes.now },
+}
+
+impl Iterator for Reader<'_> {
+    type Item = Request;
+
+    ghost next_gives = { YieldsFirst (λ s. requests_behind s.at s.bytes.now) };
+
+    ghost remaining = { item_count (λ s. requests_behind s.at s.bytes.now) };
+
+    fn next(&mut self) -> Option<Request> {
+        let request = request_at(self.bytes, self.at)?;
+        self.at += 13;
+        Some(request)
+    }
+}
+
+// The n-th request, with its line, for which there is room.
+fn perform(request: Request, n: usize, take: &[i32], index: &mut [i32], page: &mut Page<'_>)
+    requires number { n < 100000 }
+    requires room { HasRoom page.old 59 }
+    ensures performs { Performs take.now index.old index.new n request page.old page.new }
+    ensures few { page.new.used ≤ page.old.used + 59 }
 {
-    let mut read = 0;
-    let mut at = start;
-    let mut used = written;
-    loop {
-        let reading = request_at(bytes, at);
-        match reading {
-            Reading::Nothing => return Progress { read, used },
-            Reading::Next(request) => {
-                read += 1;
-                used = perform(request, read, take, index, out, used);
-                at += 13;
+    match request {
+        Request::Search { from, to } => {
+            lines::search(page, n, blocks::search(take, index, from, to));
+        }
+        Request::Stretch { from, to } => {
+            lines::stretch(page, n, blocks::stretch(take, from, to));
+        }
+        Request::Rough { from, to, budget } => {
+            lines::rough(page, n, rough::read(take, index, from, to, budget));
+        }
+        Request::Set { entry, value } => {
+            if entry < index.len() {
+                index[entry] = value;
             }
+            lines::set(page, n);
         }
     }
 }
 
-// A take and its index, from building to the last line.
-fn run(bytes: &[u8], start: usize, take: &[i32], index: &mut [i32], out: &mut [u8]) -> usize
-    requires { Holds bytes.now start take.now index.old × (length bytes.now ≤ start + 65528) × (300532 ≤ length out.old) }
-    ensures { Plays bytes.now out.new result }
+// The requests from an offset on, one after the other, up to where there is none. How many there are is returned.
+fn follow(bytes: &[u8], start: usize, take: &[i32], index: &mut [i32], page: &mut Page<'_>) -> usize
+    requires within { start ≤ length bytes.now }
+    requires most { length bytes.now ≤ start + 65528 }
+    requires room { HasRoom page.old 297360 }
+    ensures follows { Follows take.now index.old index.new bytes.now start page.old page.new result }
+    ensures few { page.new.used ≤ page.old.used + 297360 }
 {
-    let built = lines::build(out, 0, blocks::build(take, index));
-    let listed = lines::index(out, built, index);
-    let progress = follow(bytes, start, take, index, out, listed);
-    let at = start + 13 * progress.read;
-    let stopped = text::put_stop(out, progress.used, bytes.len() - at, at);
-    lines::end(out, stopped, progress.read)
+    let mut read = 0;
+    for request in (Reader { bytes, at: start }) {
+        read += 1;
+        perform(request, read, take, index, page);
+    }
+    read
+}
+
+// A take and its index, from building to the last line.
+fn run(bytes: &[u8], start: usize, take: &[i32], index: &mut [i32], page: &mut Page<'_>)
+    requires holds { Holds bytes.now start take.now index.old }
+    requires most { length bytes.now ≤ start + 65528 }
+    requires room { HasRoom page.old 300532 }
+    ensures { Plays bytes.now page.old page.new }
+{
+    lines::build(page, blocks::build(take, index));
+    lines::index(page, index);
+    let read = follow(bytes, start, take, index, page);
+    let at = start + 13 * read;
+    page.put_stop(bytes.len() - at, at);
+    lines::end(page, read);
 }
 
 // A take of so many values, with an index of so many entries.
-fn load(bytes: &[u8], values: usize, entries: usize, out: &mut [u8]) -> usize
-    requires { Headed bytes.now values entries × (length bytes.now ≤ 65536) × (300532 ≤ length out.old) }
-    ensures { Plays bytes.now out.new result }
+fn load(bytes: &[u8], heading: Heading, page: &mut Page<'_>)
+    requires headed { Headed bytes.now heading }
+    requires most { length bytes.now ≤ 65536 }
+    requires room { HasRoom page.old 300532 }
+    ensures { Plays bytes.now page.old page.new }
 {
     let mut take = [0i32; 8192];
-    numbers::read_values(bytes, 4, &mut take[..values]);
+    let take = &mut take[..heading.values];
+    numbers::read_values(bytes, 4, take);
     let mut index = [-1i32; 256];
     run(
         bytes,
-        8 + 4 * values,
-        &take[..values],
-        &mut index[..entries],
-        out,
-    )
+        8 + 4 * heading.values,
+        take,
+        &mut index[..heading.entries],
+        page,
+    );
 }
 
 // All that is printed of bytes that are all read.
-fn play(bytes: &[u8], out: &mut [u8]) -> usize
-    requires { (length bytes.now ≤ 65536) × (300532 ≤ length out.old) }
-    ensures { Plays bytes.now out.new result }
+fn play(bytes: &[u8], page: &mut Page<'_>)
+    requires most { length bytes.now ≤ 65536 }
+    requires room { HasRoom page.old 300532 }
+    ensures { Plays bytes.now page.old page.new }
 {
-    let headed = read_heading(bytes);
-    match headed {
-        Heading::Take { values, entries } => load(bytes, values, entries, out),
-        Heading::Nothing => lines::no_take(out, 0),
+    match read_heading(bytes) {
+        Some(heading) => load(bytes, heading, page),
+        None => lines::no_take(page),
     }
 }
 
@@ -224,8 +217,7 @@ pub fn write(bytes: &[u8], out: &mut [u8; 300532]) -> usize
     ensures prints { Prints bytes.now (take result out.new) }
     ensures prefix_len { IsPrefixLen result out.new }
 {
-    if bytes.len() <= 65536 {
-        return play(bytes, out);
-    }
-    play(&bytes[..65536], out)
+    let mut page = Page::new(out);
+    play(&bytes[..bytes.len().min(65536)], &mut page);
+    page.used
 }

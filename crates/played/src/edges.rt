@@ -1,71 +1,66 @@
 // Answers that documents 01 and 02 imply and document 01's examples do not show, a line each.
-use crate::{call, examples, lent, print, rounds, script};
+use crate::board::Board;
+use crate::examples;
+use std::io;
 
 // A length other than the opening's is refused, and changes nothing for the next command.
-fn other_lengths() {
+fn other_lengths(rt: &(impl Print + Drop)) -> io::Result<()> {
     let mut area = [0u64; 577];
-    let s = call::open_first(&mut area, 576);
-    let s = script::run_first(s, &mut area, 575, b"V1");
-    let s = script::run_first(s, &mut area, 577, b"V1");
-    let s = script::run_first(s, &mut area, 0, b"V1");
-    let s = script::run_first(s, &mut area, 576, b"V1");
-    print::end(s);
+    let mut board = Board::open_first(rt, &mut area, 576)?;
+    for n in [575, 577, 0, 576] {
+        board.run_on(n, "V1")?;
+    }
+    board.end()
 }
 
 // After a refused opening every command is refused, whatever is lent.
-fn unopened() {
+fn unopened(rt: &(impl Print + Drop)) -> io::Result<()> {
     let mut area = [0u64; 576];
-    let s = call::open_first(&mut area, 575);
-    let s = script::run_first(s, &mut area, 575, b"V1 M Q1 C1");
-    let s = script::run_first(s, &mut area, 576, b"V1 M Q1 C1");
-    let s = script::run_first(s, &mut area, 0, b"V1 M Q1 C1");
-    print::end(s);
+    let mut board = Board::open_first(rt, &mut area, 575)?;
+    for n in [575, 576, 0] {
+        board.run_on(n, "V1 M Q1 C1")?;
+    }
+    board.end()
 }
 
 // Two marks with one dip value, each at its own place: document 02, point 5, with K = 2.
-fn two_places() {
+fn two_places(rt: &(impl Print + Drop)) -> io::Result<()> {
     let mut area = [0u64; 640];
-    let s = call::open(&mut area);
-    let s = script::run(s, &mut area, b"V5 M V5 M Q1 Q2");
-    print::end(s);
+    let mut board = Board::open(rt, &mut area)?;
+    board.run("V5 M V5 M Q1 Q2")?;
+    board.end()
 }
 
 // Three of them, on words for four marks: one is closed, an equal value takes over from none, and a lower one from all. The words from
 // 512 + 64 * 3 on keep the pattern.
-fn side_by_side() {
+fn side_by_side(rt: &(impl Print + Drop)) -> io::Result<()> {
     let mut area = [0u64; 768];
     compare::fill(&mut area);
-    let s = call::open(&mut area);
-    let s = script::run(
-        s,
-        &mut area,
-        b"V5 M V5 M V5 M Q1 Q2 Q3 C2 V5 Q1 Q3 V4 Q1 Q3",
-    );
-    print::session(s);
-    lent::print_changed(&area, 704);
+    let mut board = Board::open(rt, &mut area)?;
+    board.run("V5 M V5 M V5 M Q1 Q2 Q3 C2 V5 Q1 Q3 V4 Q1 Q3")?;
+    board.end_changed(704)
 }
 
 // An older mark keeps its dip through many rounds, whose closed marks the merges leave behind. The area is opened for 4,096 marks, and two
 // at most are active together: the words from 512 + 64 * 2 on keep the pattern.
-fn many_merges() {
+fn many_merges(rt: &(impl Print + Drop)) -> io::Result<()> {
     let mut area = [0u64; 262656];
     compare::fill(&mut area);
-    let s = call::open(&mut area);
-    let s = script::run(s, &mut area, b"V9 M V8 M V3 C1");
-    let s = rounds::play(s, &mut area, 5, 10000);
-    let s = script::run(s, &mut area, b"Q2 Q1");
-    print::session(s);
-    lent::print_changed(&area, 640);
+    let mut board = Board::open(rt, &mut area)?;
+    board.run("V9 M V8 M V3 C1")?;
+    board.play(5, 10000)?;
+    board.run("Q2 Q1")?;
+    board.end_changed(640)
 }
 
-pub fn sequences() {
-    other_lengths();
+pub fn sequences(rt: &(impl Print + Drop)) -> io::Result<()> {
+    other_lengths(rt)?;
     // Refusals in a row leave position 2 unmarked, and it is marked once a Close makes room.
-    examples::play(b"V1 M V2 M M Q2 C2 M C1 M Q2");
+    examples::play(rt, "V1 M V2 M M Q2 C2 M C1 M Q2")?;
     // Among equal values the earliest place counts, also where a greater one stands between them.
-    examples::play(b"V3 M V3 V4 V3 Q1");
-    two_places();
-    side_by_side();
-    many_merges();
-    unopened();
+    examples::play(rt, "V3 M V3 V4 V3 Q1")?;
+    two_places(rt)?;
+    side_by_side(rt)?;
+    many_merges(rt)?;
+    unopened(rt)
 }

@@ -3,26 +3,28 @@
 // What each call answers is printed, and the file `stdout` beside this folder says what the documents have it answer, as tests/played.py works it out, and tests/standings.py of the standings.
 #![tactic(auto)]
 
+use std::io;
+
+mod board;
 mod bytes;
-mod call;
 mod edges;
 mod examples;
-mod lent;
 mod merges;
-mod print;
 mod refusals;
 mod rounds;
 mod script;
+mod shown;
 mod standings;
 mod windows;
+mod words;
 
-fn main() {
-    examples::openings();
-    examples::sequences();
-    bytes::sequences();
-    edges::sequences();
-    merges::sequences();
-    refusals::sequences();
-    standings::sequences();
-    windows::sequences();
+fn main(rt: HostRuntime) -> io::Result<()> {
+    examples::openings(&rt)?;
+    examples::sequences(&rt)?;
+    bytes::sequences(&rt)?;
+    edges::sequences(&rt)?;
+    merges::sequences(&rt)?;
+    refusals::sequences(&rt)?;
+    standings::sequences(&rt)?;
+    windows::sequences(&rt)
 }

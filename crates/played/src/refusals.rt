@@ -1,99 +1,102 @@
 // A case of each refusal of a command, 4 to 11: a refused command changes no word and nothing in the session.
-use crate::{call, print, rounds, script};
+use crate::board::Board;
 use history::{Position, Session, Standing};
+use std::io;
 
-// A refused command, lent the first n words: its reply, how many words of the area it changed, and whether it changed the session.
-fn refused(s: Session, area: &mut [u64; 577], n: usize, script: &[u8]) {
-    let before = *area;
-    let after = script::run_first(s, area, n, script);
-    print::number(compare::differing(&before, area) as u64);
-    print::text(b" words changed, session ");
-    if compare::is_same(s, after) {
-        print::text(b"equal\n");
-    } else {
-        print::text(b"changed\n");
+impl<R: Print + Drop> Board<'_, R, Session, 577> {
+    // A refused command, lent the first n words: its reply, how many words of the area it changed, and whether it changed the session.
+    fn refused(&mut self, n: usize, script: &str) -> io::Result<()> {
+        let words = *self.area;
+        let session = self.session;
+        self.run_on(n, script)?;
+        let changed = compare::differing(&words, self.area);
+        let after = if compare::is_same(session, self.session) {
+            "equal"
+        } else {
+            "changed"
+        };
+        println!(self.rt; "{changed} words changed, session {after}")
+    }
+
+    // 7, 5, 8 and 11, up to one active mark.
+    fn before_full(&mut self) -> io::Result<()> {
+        self.refused(576, "M")?;
+        self.run_on(576, "V1")?;
+        self.refused(575, "V2")?;
+        self.refused(577, "V2")?;
+        self.run_on(576, "M")?;
+        self.refused(576, "M")?;
+        self.refused(576, "Q2")
+    }
+
+    // 10, 11 and 9, from one active mark on.
+    fn from_full(&mut self) -> io::Result<()> {
+        self.run_on(576, "V2")?;
+        self.refused(576, "M")?;
+        self.refused(576, "C2")?;
+        self.run_on(576, "C1 M C2")?;
+        self.refused(576, "M")?;
+        self.refused(576, "Q2")
     }
 }
 
-// 7, 5, 8 and 11, up to one active mark.
-fn before_full(s: Session, area: &mut [u64; 577]) -> Session {
-    refused(s, area, 576, b"M");
-    let s = script::run_first(s, area, 576, b"V1");
-    refused(s, area, 575, b"V2");
-    refused(s, area, 577, b"V2");
-    let s = script::run_first(s, area, 576, b"M");
-    refused(s, area, 576, b"M");
-    refused(s, area, 576, b"Q2");
-    s
-}
-
-// 10, 11 and 9, from one active mark on.
-fn from_full(s: Session, area: &mut [u64; 577]) {
-    let s = script::run_first(s, area, 576, b"V2");
-    refused(s, area, 576, b"M");
-    refused(s, area, 576, b"C2");
-    let s = script::run_first(s, area, 576, b"C1 M C2");
-    refused(s, area, 576, b"M");
-    refused(s, area, 576, b"Q2");
-}
-
 // 9, 8, 11 and 10 in a merge, which the 16th Mark begins and the 23rd ends.
-fn in_merge(area: &mut [u64; 577]) {
-    let s = call::open(area);
-    let s = rounds::play_shown(s, area, 5, 17);
-    refused(s, area, 577, b"M");
-    let s = script::run_first(s, area, 577, b"V6 M");
-    refused(s, area, 577, b"M");
-    refused(s, area, 577, b"Q17");
-    refused(s, area, 577, b"C17");
-    let s = script::run_first(s, area, 577, b"V7");
-    refused(s, area, 577, b"M");
+fn in_merge(rt: &(impl Print + Drop), area: &mut [u64; 577]) -> io::Result<()> {
+    let mut board = Board::open(rt, area)?;
+    board.play_shown(5, 17)?;
+    board.refused(577, "M")?;
+    board.run_on(577, "V6 M")?;
+    board.refused(577, "M")?;
+    board.refused(577, "Q17")?;
+    board.refused(577, "C17")?;
+    board.run_on(577, "V7")?;
+    board.refused(577, "M")
+}
+
+// A session made by hand at a position that no run here reaches.
+fn session_at(present: Position) -> Session {
+    Session {
+        words: 576,
+        limit: 1,
+        present,
+        last: -8,
+        active: 0,
+        standing: Standing::Unmarked,
+    }
 }
 
 // The last position, from a session made by hand, since no run here is as long: it is reached, marked, and shown where the least value stands.
-fn to_last_position(area: &mut [u64; 577]) {
-    let s = Session {
-        words: 576,
-        limit: 1,
-        present: Position(4294967294),
-        last: -8,
-        active: 0,
-        standing: Standing::Unmarked,
-    };
-    let s = script::run_first(s, area, 576, b"V- M Q+");
-    print::end(s);
+fn to_last_position(rt: &(impl Print + Drop), area: &mut [u64; 577]) -> io::Result<()> {
+    let session = session_at(Position(4294967294));
+    let mut board = Board { rt, area, session };
+    board.run_on(576, "V- M Q+")?;
+    board.end()
 }
 
 // 6, in a session made by hand.
-fn at_last_position(area: &mut [u64; 577]) {
-    let s = Session {
-        words: 576,
-        limit: 1,
-        present: Position(4294967295),
-        last: -8,
-        active: 0,
-        standing: Standing::Unmarked,
-    };
-    refused(s, area, 576, b"V1");
+fn at_last_position(rt: &(impl Print + Drop), area: &mut [u64; 577]) -> io::Result<()> {
+    let session = session_at(Position(4294967295));
+    let mut board = Board { rt, area, session };
+    board.refused(576, "V1")
 }
 
 // 4, after a refused opening.
-fn unopened(area: &mut [u64; 577]) {
-    let s = call::open_first(area, 575);
-    refused(s, area, 575, b"V1");
-    refused(s, area, 576, b"M");
-    refused(s, area, 577, b"Q1");
-    refused(s, area, 0, b"C1");
+fn unopened(rt: &(impl Print + Drop), area: &mut [u64; 577]) -> io::Result<()> {
+    let mut board = Board::open_first(rt, area, 575)?;
+    for (n, command) in [(575, "V1"), (576, "M"), (577, "Q1"), (0, "C1")] {
+        board.refused(n, command)?;
+    }
+    Ok(())
 }
 
-pub fn sequences() {
+pub fn sequences(rt: &(impl Print + Drop)) -> io::Result<()> {
     let mut area = [0u64; 577];
     compare::fill(&mut area);
-    let s = call::open_first(&mut area, 576);
-    let s = before_full(s, &mut area);
-    from_full(s, &mut area);
-    in_merge(&mut area);
-    to_last_position(&mut area);
-    at_last_position(&mut area);
-    unopened(&mut area);
+    let mut board = Board::open_first(rt, &mut area, 576)?;
+    board.before_full()?;
+    board.from_full()?;
+    in_merge(rt, &mut area)?;
+    to_last_position(rt, &mut area)?;
+    at_last_position(rt, &mut area)?;
+    unopened(rt, &mut area)
 }

@@ -2,7 +2,7 @@
 use mathlib.Core.Path.{◌≡◌, refl, sym, ap, subst, ◌∙◌}
 use mathlib.Core.Bool.{Bool, true, false, ◌||◌, or-false}
 use mathlib.Core.List.{List, ◌++◌}
-use mathlib.Core.Option.{none, some}
+use Rattle.std.specs.Prelude.{Option, None, Some}
 use native.Mathlib.Decide.{ℕ_discrete, dec_lt}
 use Prim.Native.Nat.{ℕ, ◌<◌, ◌≤◌, min}
 use native.Mathlib.Omega.{arith}
@@ -16,14 +16,12 @@ use Rattle.layout.specs.declared.Extent.{Extent}
 use Rattle.layout.specs.declared.Role.{Role}
 use Rattle.layout.specs.declared.Role.TheVariants.{Active, Younger, Older, Next}
 use Rattle.layout.specs.Words.{bottom, position, least_word, extent_of, start_of}
-use Rattle.table.specs.declared.Found.{Found}
 use Rattle.table.specs.Marks.{Live}
-use Rattle.table.specs.Calls.{row_of, Sought}
+use Rattle.table.specs.Calls.{Sought}
 use Rattle.table.proofs.Active.{live_among, live_position, not_among}
 use Rattle.table.proofs.Positions.{among-append}
-use Rattle.stack.specs.declared.Low.{Low}
 use Rattle.packing.specs.Packing.{packed, unpacked, Faithful}
-use Rattle.stack.specs.Calls.{word_shown, Looked}
+use Rattle.stack.specs.Calls.{Looked}
 use Rattle.ranges.specs.Holding.{upcoming, origin, LaneHolds, Roles, roles_of, marks_in, Holds}
 use Rattle.ranges.specs.Private.{Chosen, LowerOf, UpToNow}
 use Rattle.ranges.proofs.Later.{rooms, heights, older_word, older_faithful, older_whole, still_word, still_faithful}
@@ -93,7 +91,7 @@ module _ (h : History) (first w : List ℕ) (p : Position) (k : Holds h first w)
     found_active g l = among_lane role c ∙ live_among w e.lane e.rows p g l
 
     -- one that is not found is not
-    pub lost_inactive : (r : Found) → Sought w e.lane e.rows e.capacity p r → row_of r ≡ none → among p h.active ≡ false
+    pub lost_inactive : (r : Option Held) → Sought w e.lane e.rows e.capacity p r → r ≡ None → among p h.active ≡ false
     lost_inactive r q n = among_lane role c ∙ not_among w e.lane e.rows e.capacity p r q (lane_of role).linked n
 
     module _ (g : Held) (l : Live w e.lane e.rows p g) where
@@ -101,10 +99,10 @@ module _ (h : History) (first w : List ℕ) (p : Position) (k : Holds h first w)
       here = live_position w e.lane e.rows p g l
 
       -- its lane has its minimum up to the lane's end
-      pub shown_word : (low : Low) → Looked w e.lane e.height g low → word_shown low ≡ some (packed (minimum (end_of role) p))
+      pub shown_word : (low : Option ℕ) → Looked w e.lane e.height g low → low ≡ Some (packed (minimum (end_of role) p))
       shown_word low q =
           q.right e.rows (rooms (lane_of role)) (lane_of role).stacked l.row (packed (minimum (end_of role) (position w e.lane g))) ((lane_of role).row g l.row).rests
-          ∙ ap (λ (i : Position). some (packed (minimum (end_of role) i))) here
+          ∙ ap (λ (i : Position). Some (packed (minimum (end_of role) i))) here
 
       pub row_after : 0 < p.0
       row_after = subst (λ (i : Position). 0 < i.0) here ((lane_of role).row g l.row).after

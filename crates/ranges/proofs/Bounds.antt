@@ -1,5 +1,5 @@
 -- Whatever the words hold: no call changes their number, or a word from 262,656 on.
-use mathlib.Core.Path.{◌≡◌, refl, sym, ap, subst, ◌∙◌}
+use mathlib.Core.Path.{◌≡◌, refl, sym, subst, ◌∙◌}
 use mathlib.Core.Bool.{Bool}
 use mathlib.Core.List.{List, [], ◌∷◌}
 use mathlib.Core.Logic.{◌⊎◌, inl, inr, ⊎_elim}
@@ -7,6 +7,7 @@ use native.Mathlib.Decide.{ℕ_discrete, dec_lt}
 use Prim.Native.Nat.{ℕ, ◌+◌, ◌%◌, ◌<◌, ◌≤◌}
 use native.Mathlib.Omega.{arith}
 use lib.ListN.{set}
+use Rattle.std.specs.Prelude.{Option, None, Some}
 use Rattle.history.specs.declared.Position.{Position}
 use Rattle.layout.specs.declared.Held.{Held}
 use Rattle.layout.specs.declared.Lane.{Lane}
@@ -17,9 +18,7 @@ use Rattle.layout.specs.Words.{mark_word, header_of, extent_of, left_of, run_of,
 use Rattle.layout.specs.Frames.{Kind, SameLanes, Within}
 use Rattle.layout.proofs.Written.{wrote_header, lanes_then}
 use Rattle.layout.proofs.Puts.{puts_lanes}
-use Rattle.table.specs.declared.Found.{Found}
-use Rattle.table.specs.declared.Found.TheVariants.{At, Nothing}
-use Rattle.table.specs.Calls.{row_of, Released}
+use Rattle.table.specs.Calls.{Released}
 use Rattle.table.proofs.Closing.{release_within}
 use Rattle.stack.proofs.Rooms.{room_or_not}
 use Rattle.ranges.specs.Calls.{Inside}
@@ -58,9 +57,9 @@ released_inside {w} k rows g a = ⊎_elim
 pub next_inside : {w v : List ℕ} {p : Position} → ClosedNext w v p → Inside w v
 next_inside {w} {v} q = go q.found refl
   where
-    go : (r : Found) → q.found ≡ r → Inside w v
-    go (At g) z = released_inside (extent_of w Next).lane (extent_of w Next).rows g (q.closed g (ap row_of z))
-    go Nothing z = nothing_done (q.lost (ap row_of z))
+    go : (r : Option Held) → q.found ≡ r → Inside w v
+    go (Some g) z = released_inside (extent_of w Next).lane (extent_of w Next).rows g (q.closed g z)
+    go None z = nothing_done (q.lost z)
 
 carried_inside : {w v : List ℕ} {e : Extent} {h : Held} {x : ℕ} → Carried w v e h x → Inside w v
 carried_inside {w} {v} {e} {h} a = ⊎_elim

@@ -2,7 +2,7 @@
 use mathlib.Core.Path.{◌≡◌, refl, sym, ap, subst, ◌∙◌}
 use mathlib.Core.Bool.{false}
 use mathlib.Core.List.{List}
-use mathlib.Core.Option.{none, some}
+use Rattle.std.specs.Prelude.{Option, None, Some}
 use Prim.Native.Nat.{ℕ, ◌+◌, ◌*◌, ◌<◌, ◌≤◌}
 use native.Mathlib.Omega.{arith}
 use lib.Dec.{eqb}
@@ -20,10 +20,8 @@ use Rattle.layout.specs.declared.Role.TheVariants.{Active, Next}
 use Rattle.layout.specs.Words.{Earlier, row₀, position, extent_of}
 use Rattle.layout.specs.Frames.{SameLane, Other}
 use Rattle.layout.proofs.Written.{lane_then, lane_stays}
-use Rattle.table.specs.declared.Found.{Found}
-use Rattle.table.specs.declared.Found.TheVariants.{At, Nothing}
 use Rattle.table.specs.Marks.{After, Live, released}
-use Rattle.table.specs.Calls.{row_of, Sought, Released}
+use Rattle.table.specs.Calls.{Sought, Released}
 use Rattle.table.proofs.Active.{among_live, live_position, not_among}
 use Rattle.table.proofs.Closing.{release_within}
 use Rattle.ranges.specs.Holding.{LaneHolds, Roles, roles_of, marks_in, Holds}
@@ -85,7 +83,7 @@ tail {u} {v} {n} {p} {vs} e b q = go q.found refl
     sought : Sought u n.lane n.rows n.capacity p q.found
     sought = subst (λ (x : Extent). Sought u x.lane x.rows x.capacity p q.found) e q.sought
 
-    lost : row_of q.found ≡ none → Tail u v n p
+    lost : q.found ≡ None → Tail u v n p
     lost z = subst (λ (x : List ℕ). Tail u x n p) (sym (q.lost z)) (record {
       struck = struck_same n p refl (lane_stays n.lane u) (not_among u n.lane n.rows n.capacity p q.found sought b.linked z);
       others = λ j o. lane_stays j u;
@@ -93,7 +91,7 @@ tail {u} {v} {n} {p} {vs} e b q = go q.found refl
       beyond = λ j c. refl;
     })
 
-    found : (g : Held) → row_of q.found ≡ some g → Tail u v n p
+    found : (g : Held) → q.found ≡ Some g → Tail u v n p
     found g z =
         let live = sought.sound g z in
         let r : Released u v n.lane n.rows g = subst (λ (x : Extent). Released u v x.lane x.rows g) e (q.closed g z) in
@@ -105,9 +103,9 @@ tail {u} {v} {n} {p} {vs} e b q = go q.found refl
           beyond = i.beyond;
         })
 
-    go : (r : Found) → q.found ≡ r → Tail u v n p
-    go (At g) z = found g (ap row_of z)
-    go Nothing z = lost (ap row_of z)
+    go : (r : Option Held) → q.found ≡ r → Tail u v n p
+    go (Some g) z = found g z
+    go None z = lost z
 
 -- THE MARK STANDS STILL, in the younger lane or the older one
 module _ (h : History) (first w v : List ℕ) (p : Position) (k : Holds h first w) (g : Held) where

@@ -3,14 +3,16 @@ use mathlib.Core.Path.{◌≡◌, refl, sym, ap, subst, ◌∙◌}
 use mathlib.Core.Bool.{Bool, true, false, cond, true≢false, false≢true}
 use mathlib.Core.List.{List, [], ◌∷◌}
 use mathlib.Core.Logic.{◌⊎◌, inl, inr, ⊎_elim}
-use mathlib.Core.Option.{none, some}
+use Rattle.std.specs.Prelude.{Option, None, Some}
+use Rattle.std.proofs.Common.{◌++◌, replicate, take, drop}
+use Rattle.std.proofs.lemmas.List.{length-take-le}
+use Rattle.std.proofs.lemmas.Grind.{common_steps}
 use native.Mathlib.Decide.{dec_lt}
 use native.Mathlib.Nat.{eq-zero-or-pos}
-use Prim.Native.Nat.{ℕ, ◌+◌, ◌<◌, ◌≤◌, min}
+use Prim.Native.Nat.{ℕ, ◌<◌, ◌≤◌, min}
 use native.Mathlib.Omega.{arith}
-use lib.ListN.{length, get_or, set, length-set}
-use lib.Seq.{get_or-set_same, get_or-set_other}
-use borrow.Author.Count.{below_none, below_more}
+use lib.ListN.{length, get_or, set}
+use Rattle.laws.proofs.Tests.{lt_or_ge}
 use Rattle.history.specs.declared.Position.{Position}
 use Rattle.history.specs.Minimum.{Minimum}
 use Rattle.history.specs.declared.Command.TheVariants.{Close}
@@ -25,19 +27,16 @@ use Rattle.layout.specs.declared.Role.TheVariants.{Active, Younger, Older, Next}
 use Rattle.layout.specs.Words.{Under, bottom, least_word, extent_of, start_of, Room, puts}
 use Rattle.layout.proofs.Written.{wrote_header}
 use Rattle.layout.proofs.Puts.{puts_lanes}
-use Rattle.table.specs.declared.Found.{Found}
 use Rattle.table.specs.Marks.{Live, released}
-use Rattle.table.specs.Calls.{row_of, Sought, Released}
-use Rattle.table.proofs.Closing.{release_within}
-use Rattle.stack.specs.declared.Low.{Low}
+use Rattle.table.specs.Calls.{Sought, Released}
 use Rattle.packing.specs.Packing.{packed, unpacked, Faithful}
-use Rattle.stack.specs.Calls.{Lowered, word_shown, Looked}
+use Rattle.stack.specs.Calls.{Lowered, Looked}
 use Rattle.stack.proofs.Lowering.{lowered_within}
 use Rattle.stack.proofs.Rooms.{room_or_not}
-use Rattle.ranges.specs.declared.Lowest.TheVariants.{At, Nothing}
 use Rattle.ranges.specs.Holding.{Holds}
-use Rattle.ranges.specs.Calls.{Inside, Opened, Valued, Marked, minimum_of, LookedUp, Closed}
+use Rattle.ranges.specs.Calls.{Inside, Opened, Valued, Marked, LookedUp, Closed}
 use Rattle.ranges.specs.Private.{Chosen, LowerOf, UpToNow, ClosedNext, Appended, Turned, Shared}
+use Rattle.ranges.proofs.Ways.{apart}
 use Rattle.ranges.proofs.Bounds.{nothing_done, done_then, header_inside, within_inside, released_inside, next_inside, appended_inside, turned_inside, shared_inside}
 use Rattle.ranges.proofs.Later.{rooms}
 use Rattle.ranges.proofs.Upkeep.{opening_puts, opened_holds, valued_holds}
@@ -53,30 +52,30 @@ long_enough k = omega (arith, k.laid.roomy, k.laid.active.linked.room.wide)
 pub open_short : (w : List ℕ) → length w < 576 → Opened w w
 open_short w l = record { inside = nothing_done refl; short = λ b. refl; holds = λ b. absurd (omega arith) }
 
--- the first i words are zeros, and all behind the header are as they were
-pub record Zeroed (w v : List ℕ) (i : ℕ) : Type 0 where
-  pub long : length v ≡ length w
-  pub zero : (j : ℕ) → j < i → get_or v j 0 ≡ 0
-  pub same : (j : ℕ) → 32 ≤ j → get_or v j 0 ≡ get_or w j 0
+-- the first n words are zeros, and all behind them are as they were
+abbrev cleared : ℕ → List ℕ → List ℕ
+cleared n w = replicate n 0 ++ drop n w
 
-pub zeroed_none : (w : List ℕ) → Zeroed w w 0
-zeroed_none w = record { long = refl; zero = below_none _; same = λ j l. refl }
+module _ (w : List ℕ) (n : ℕ) (l : n ≤ length w) where
+  long : length (cleared n w) ≡ length w
+  long = grind (arith, common_steps)
 
-pub zeroed_more : (w v : List ℕ) (i : ℕ) → Zeroed w v i → i < 32 → i < length v → Zeroed w (set v i 0) (i + 1)
-zeroed_more w v i z l b = record {
-  long = length-set v i 0 ∙ z.long;
-  zero = below_more _ i (λ j m. get_or-set_other v i j 0 0 (λ e. omega arith) ∙ z.zero j m) (get_or-set_same v i 0 0 b);
-  same = λ j m. get_or-set_other v i j 0 0 (λ e. omega arith) ∙ z.same j m;
-}
+  zero : (j : ℕ) → j < n → get_or (cleared n w) j 0 ≡ 0
+  zero j b = grind (arith, common_steps)
 
-pub open_done : (w u : List ℕ) → 576 ≤ length w → Zeroed w u 32 → Opened w (puts opening_puts u)
-open_done w u l z =
-    let lanes = puts_lanes opening_puts u refl in
-    record {
-      inside = record { long = lanes.long ∙ z.long; beyond = λ i b. lanes.words i (omega arith) ∙ z.same i (omega arith) };
+  same : (j : ℕ) → n ≤ j → get_or (cleared n w) j 0 ≡ get_or w j 0
+  same j b = grind (arith, common_steps)
+
+pub open_done : (w u : List ℕ) → 576 ≤ length w → u ≡ replicate (length (take 32 w)) 0 → Opened w (puts opening_puts (u ++ drop 32 w))
+open_done w u l e =
+    let v = cleared 32 w in
+    let m : 32 ≤ length w = omega arith in
+    let lanes = puts_lanes opening_puts v refl in
+    rw (e, length-take-le 32 w m) (record {
+      inside = record { long = lanes.long ∙ long w 32 m; beyond = λ i b. lanes.words i (omega arith) ∙ same w 32 m i (omega arith) };
       short = λ b. absurd (omega arith);
-      holds = λ b. subst (λ (x : Stepped). Holds x.history w (puts opening_puts u)) (sym (opening-accepted (length w) l)) (opened_holds w u (length w) (limit_of (length w)) l z.long z.zero z.same);
-    }
+      holds = λ b. subst (λ (x : Stepped). Holds x.history w (puts opening_puts v)) (sym (opening-accepted (length w) l)) (opened_holds w v (length w) (limit_of (length w)) l (long w 32 m) (zero w 32 m) (same w 32 m));
+    })
 
 -- A VALUE
 pub value_short : (w : List ℕ) (m : Minimum) → length w < 32 → Valued w w m
@@ -95,17 +94,17 @@ value_done w u m e word r l own packs back q = record {
 }
 
 -- A LOOK-UP
-no_minimum : {C : Type 0} {m : Minimum} → minimum_of Nothing ≡ some m → C
-no_minimum e = absurd (let z : ◌≡◌ {A = ℕ} 0 1 = cc in omega arith)
+no_minimum : {C : Type 0} {m : Minimum} → None ≡ Some m → C
+no_minimum e = cc
 
-nothing_shown : (w : List ℕ) (p : Position) → ((h : History) (first : List ℕ) → Holds h first w → among p h.active ≡ false) → LookedUp w p Nothing
+nothing_shown : (w : List ℕ) (p : Position) → ((h : History) (first : List ℕ) → Holds h first w → among p h.active ≡ false) → LookedUp w p None
 nothing_shown w p f = record {
   live = λ m e. no_minimum e;
   shown = λ m e. no_minimum e;
-  holds = λ h first k. sym (ap (λ (b : Bool). cond b (some (minimum h.values p)) none) (f h first k));
+  holds = λ h first k. sym (ap (λ (b : Bool). cond b (Some (minimum h.values p)) None) (f h first k));
 }
 
-pub look_short : (w : List ℕ) (p : Position) → length w < 32 → LookedUp w p Nothing
+pub look_short : (w : List ℕ) (p : Position) → length w < 32 → LookedUp w p None
 look_short w p l = nothing_shown w p (λ h first k. absurd (omega (arith, long_enough k)))
 
 -- a word is an entry of some lane's stack
@@ -130,59 +129,71 @@ lower_entry {w} {x} {r} role a q =
     (room_or_not w e.height.0)
 
 now_entry : {w : List ℕ} {x r : ℕ} (role : Role) → Entry w x → UpToNow w role x r → Entry w r
-now_entry Active a q = let z = q.own (λ e. absurd (let z : ◌≡◌ {A = ℕ} 0 1 = cc in omega arith)) (λ e. absurd (let z : ◌≡◌ {A = ℕ} 0 1 = cc in omega arith)) in (a.0, a.1, a.2, z ∙ a.3)
+now_entry Active a q = let z = q.own (λ e. cc) (λ e. cc) in (a.0, a.1, a.2, z ∙ a.3)
 now_entry Younger a q = lower_entry Active a (q.younger refl)
 now_entry Older a q = let t = q.older refl in lower_entry Active (lower_entry Younger a t.1) t.2
-now_entry Next a q = let z = q.own (λ e. absurd (let z : ◌≡◌ {A = ℕ} 0 1 = cc in omega arith)) (λ e. absurd (let z : ◌≡◌ {A = ℕ} 0 1 = cc in omega arith)) in (a.0, a.1, a.2, z ∙ a.3)
+now_entry Next a q = let z = q.own (λ e. cc) (λ e. cc) in (a.0, a.1, a.2, z ∙ a.3)
 
 -- what is read of a header
-module _ (w : List ℕ) (p : Position) (role : Role) (e : Extent) (own : e ≡ extent_of w role) (c : Chosen w p role) (found : Found) (q : Sought w e.lane e.rows e.capacity p found) where
+module _ (w : List ℕ) (p : Position) (role : Role) (e : Extent) (own : e ≡ extent_of w role) (c : Chosen w p role) (found : Option Held) (q : Sought w e.lane e.rows e.capacity p found) where
   abbrev ex : Extent
   ex = extent_of w role
 
   sought : Sought w ex.lane ex.rows ex.capacity p found
   sought = subst (λ (x : Extent). Sought w x.lane x.rows x.capacity p found) own q
 
+  -- the active lane is chosen where the position is not before its start
+  started : role ≡ Active → (start_of w Active).0 ≤ p.0
+  started a =
+      ⊎_elim
+      (λ (l : p.0 < (start_of w Active).0).
+      ⊎_elim (λ (m : p.0 < (start_of w Younger).0). apart Active Older a (c.older l m) (λ z. omega arith))
+      (λ (m : (start_of w Younger).0 ≤ p.0). apart Active Younger a (c.younger l m) (λ z. omega arith)) (lt_or_ge p.0 (start_of w Younger).0))
+      (λ (l : (start_of w Active).0 ≤ p.0). l) (lt_or_ge p.0 (start_of w Active).0)
+
+  earlier : (role ≡ Active → ⊥) → p.0 < (start_of w Active).0
+  earlier n = ⊎_elim (λ (l : p.0 < (start_of w Active).0). l) (λ (l : (start_of w Active).0 ≤ p.0). absurd (n (c.active l))) (lt_or_ge p.0 (start_of w Active).0)
+
   -- the mark is not found
-  pub not_there : row_of found ≡ none → (h : History) (first : List ℕ) → Holds h first w → among p h.active ≡ false
+  pub not_there : found ≡ None → (h : History) (first : List ℕ) → Holds h first w → among p h.active ≡ false
   not_there n h first k = lost_inactive h first w p k role (where_is c) found sought n
 
-  pub look_lost : row_of found ≡ none → LookedUp w p Nothing
+  pub look_lost : found ≡ None → LookedUp w p None
   look_lost n = nothing_shown w p (not_there n)
 
   -- the mark is found
-  module _ (g : Held) (at : row_of found ≡ some g) where
+  module _ (g : Held) (at : found ≡ Some g) where
     pub live : Live w ex.lane ex.rows p g
     live = sought.sound g at
 
     pub is_there : (h : History) (first : List ℕ) → Holds h first w → among p h.active ≡ true
     is_there h first k = found_active h first w p k role (where_is c) g live
 
-    module _ (low : Low) (s : Looked w e.lane e.height g low) where
+    module _ (low : Option ℕ) (s : Looked w e.lane e.height g low) where
       looked : Looked w ex.lane ex.height g low
       looked = subst (λ (x : Extent). Looked w x.lane x.height g low) own s
 
       -- its lane always has a minimum for it
-      pub look_none : word_shown low ≡ none → LookedUp w p Nothing
+      pub look_none : low ≡ None → LookedUp w p None
       look_none n = nothing_shown w p (λ h first k. absurd (
-          let f : none ≡ some (packed (minimum (end_of h first w p k role) p)) = sym n ∙ shown_word h first w p k role (where_is c) g live low looked in
-          let z : ◌≡◌ {A = ℕ} 0 1 = cc in omega arith))
+          let f : None ≡ Some (packed (minimum (end_of h first w p k role) p)) = sym n ∙ shown_word h first w p k role (where_is c) g live low looked in
+          cc))
 
-      module _ (x r : ℕ) (shows : word_shown low ≡ some x) (up : UpToNow w role x r) where
+      module _ (x r : ℕ) (shows : low ≡ Some x) (up : UpToNow w role x r) where
         entry : Entry w x
         entry = ⊎_elim
             (λ (b : Room w ex.height.0). elim (eq-zero-or-pos ex.height.0) [
-              | inl z ↦ absurd (let f : none ≡ some x = sym (looked.nothing (λ d f. omega arith)) ∙ shows in let z₁ : ◌≡◌ {A = ℕ} 0 1 = cc in omega arith)
+              | inl z ↦ absurd (let f : None ≡ Some x = sym (looked.nothing (λ d f. omega arith)) ∙ shows in cc)
               | inr z ↦
                   let t = looked.shown b z in
-                  let same : some x ≡ some (least_word w ex.lane t.0) = sym shows ∙ t.2 in
+                  let same : Some x ≡ Some (least_word w ex.lane t.0) = sym shows ∙ t.2 in
                   let f : x ≡ least_word w ex.lane t.0 = cc in
                   (role, t.0, t.1, f)
             ])
-            (λ (n : Room w ex.height.0 → ⊥). absurd (let f : none ≡ some x = sym (looked.nothing (λ d f. n d)) ∙ shows in let z : ◌≡◌ {A = ℕ} 0 1 = cc in omega arith))
+            (λ (n : Room w ex.height.0 → ⊥). absurd (let f : None ≡ Some x = sym (looked.nothing (λ d f. n d)) ∙ shows in cc))
             (room_or_not w ex.height.0)
 
-        pub look_done : (m : Minimum) → m ≡ unpacked r → LookedUp w p (At m)
+        pub look_done : (m : Minimum) → m ≡ unpacked r → LookedUp w p (Some m)
         look_done m is = record {
           live = λ n z. (role, g, live);
           shown = λ n z.
@@ -190,10 +201,10 @@ module _ (w : List ℕ) (p : Position) (role : Role) (e : Extent) (own : e ≡ e
               let t = now_entry role entry up in
               (t.0, t.1, t.2, sym f ∙ is ∙ ap unpacked t.3);
           holds = λ h first k.
-              let same : some x ≡ some (packed (minimum (end_of h first w p k role) p)) = sym shows ∙ shown_word h first w p k role (where_is c) g live low looked in
+              let same : Some x ≡ Some (packed (minimum (end_of h first w p k role) p)) = sym shows ∙ shown_word h first w p k role (where_is c) g live low looked in
               let f : x ≡ packed (minimum (end_of h first w p k role) p) = cc in
-              ap some (is ∙ now_word h first w p k role (where_is c) g live x r f up)
-              ∙ sym (ap (λ (b : Bool). cond b (some (minimum h.values p)) none) (is_there h first k));
+              ap Some (is ∙ now_word h first w p k role (where_is c) g live x r f up)
+              ∙ sym (ap (λ (b : Bool). cond b (Some (minimum h.values p)) None) (is_there h first k));
         }
 
     -- A CLOSE: u are the words after the row is closed
@@ -211,11 +222,6 @@ module _ (w : List ℕ) (p : Position) (role : Role) (e : Extent) (own : e ≡ e
       closed_inside : Inside w u
       closed_inside = released_inside ex.lane ex.rows g rel_own
 
-      pub start_kept : get_or u 4 0 ≡ get_or w 4 0
-      start_kept = ⊎_elim
-          (λ (r : Room w ex.rows.0). ap (λ (x : List ℕ). get_or x 4 0) (closed_words r) ∙ (release_within w ex.lane ex.rows g live.row).header 4 (omega arith))
-          (λ (z : u ≡ w). ap (λ (x : List ℕ). get_or x 4 0) z) closed_lane
-
       -- of a history there is room
       history_words : (h : History) (first : List ℕ) → Holds h first w → (r : Role) → role ≡ r → u ≡ released w (extent_of w r).lane g
       history_words h first k r a = closed_words (rooms (lane_of h first w p k role)) ∙ ap (λ (x : Role). released w (extent_of w x).lane g) a
@@ -224,25 +230,25 @@ module _ (w : List ℕ) (p : Position) (role : Role) (e : Extent) (own : e ≡ e
       live_in r a = subst (λ (x : Role). Live w (extent_of w x).lane (extent_of w x).rows p g) a live
 
       -- it is the active lane's
-      pub close_active : (start_of w Active).0 ≤ p.0 → Closed w u p true
-      close_active l = record {
+      pub close_active : role ≡ Active → Closed w u p true
+      close_active a = record {
         inside = closed_inside;
         none = λ z. absurd (true≢false z);
         live = λ z. (role, g, live);
         found = λ h first k. sym (is_there h first k);
         holds = λ h first k z.
-            let a = c.active l in
+            let l : (start_of w Active).0 ≤ p.0 = started a in
             subst (Holds (accept h (Close p)).history first) (sym (history_words h first k Active a)) (closed_active h first w p k g l (live_in Active a));
       }
 
       -- or it stands still, and was perhaps carried
-      pub close_still : (v : List ℕ) → p.0 < (start_of w Active).0 → ClosedNext u v p → Closed w v p true
-      close_still v l q₂ = record {
+      pub close_still : (v : List ℕ) → (role ≡ Active → ⊥) → ClosedNext u v p → Closed w v p true
+      close_still v n q₂ = record {
         inside = done_then closed_inside (next_inside q₂);
         none = λ z. absurd (true≢false z);
         live = λ z. (role, g, live);
         found = λ h first k. sym (is_there h first k);
-        holds = λ h first k z. elim (dec_lt p.0 (start_of w Younger).0) [
+        holds = λ h first k z. let l : p.0 < (start_of w Active).0 = earlier n in elim (dec_lt p.0 (start_of w Younger).0) [
           | yes b ↦
               let a = c.older l b in
               closed_older h first w v p k g l b (live_in Older a) (subst (λ (x : List ℕ). ClosedNext x v p) (history_words h first k Older a) q₂)

@@ -95,7 +95,7 @@ module _ (w u : List ℕ) (n k : ℕ) (l : 576 ≤ length w) (long : length u �
         older_few = omega arith;
       })
       (λ z. absurd (omega arith)) (λ z. absurd (omega arith)) (λ z. absurd (omega arith)) refl
-      (λ e. absurd (let z : ◌≡◌ {A = ℕ} 0 1 = cc in omega arith))
+      (λ e. absurd (cc))
       (λ i b. (puts_lanes opening_puts u refl).words i (omega arith) ∙ same i (omega arith))
 
 -- A VALUE: u are the words after the stack's change

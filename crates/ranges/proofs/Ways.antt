@@ -3,7 +3,7 @@ use mathlib.Core.Path.{◌≡◌, refl, sym, ap, ◌∙◌}
 use mathlib.Core.Bool.{Bool, true≢false}
 use mathlib.Core.List.{List}
 use mathlib.Core.Logic.{⊎_elim}
-use mathlib.Core.Option.{none, some}
+use Rattle.std.specs.Prelude.{Option, None, Some}
 use Prim.Native.Nat.{ℕ, ◌<◌, ◌≤◌, min}
 use native.Mathlib.Omega.{arith}
 use lib.ListN.{length}
@@ -19,38 +19,39 @@ use Rattle.layout.specs.Words.{after, bottom, header_of, extent_of}
 use Rattle.layout.specs.Frames.{Kind, Within}
 use Rattle.layout.specs.Calls.{Read}
 use Rattle.layout.proofs.Written.{untouched, and_then}
-use Rattle.table.specs.declared.Found.{Found}
 use Rattle.table.specs.Marks.{by_insertion, inserted}
-use Rattle.table.specs.Calls.{row_of, Sought, Inserted, Released}
+use Rattle.table.specs.Calls.{Sought, Inserted, Released}
 use Rattle.table.proofs.Insertion.{insertion_within}
-use Rattle.stack.specs.declared.Low.{Low}
 use Rattle.stack.specs.Entries.{by_stack}
-use Rattle.stack.specs.Calls.{word_shown, Entered, Pushed}
+use Rattle.stack.specs.Calls.{Entered, Pushed}
 use Rattle.stack.proofs.Pushing.{pushed_within}
 use Rattle.ranges.specs.Private.{every_kind, Spare, Appended, LowerOf, ClosedNext}
 use Rattle.ranges.proofs.Lanes.{lane_appended, marks_appended, position_old, position_new}
 
 -- no answer is both something and nothing
-both : {A C : Type 0} {x : A} → some x ≡ none → C
-both e = absurd (let z : ◌≡◌ {A = ℕ} 0 1 = cc in omega arith)
+both : {A C : Type 0} {x : A} → Some x ≡ None → C
+both e = absurd (cc)
 
 -- `up_to_start` and `up_to_now`: no two roles are one
 pub apart : {C : Type 0} {role : Role} (a b : Role) → role ≡ a → role ≡ b → (header_of a ≡ header_of b → ⊥) → C
 apart a b e f n = absurd (n (ap header_of (sym e ∙ f)))
 
--- `below`: there is no entry, or there is one
-module _ {w : List ℕ} (role : Role) {e : Extent} {low : Low} (own : e ≡ extent_of w role) (seen : Entered w e.lane e.height bottom low) where
+-- `below`: there is no entry, or there is one. Fewer words than a header's have room for no stack, and the lane read of them is empty
+module _ {w : List ℕ} {role : Role} {e : Extent} {low : Option ℕ} (read : Read w role e) (seen : Entered w e.lane e.height bottom low) where
   -- the look is at the lane that the header has
-  looked : Entered w (extent_of w role).lane (extent_of w role).height bottom low
-  looked = rw own at seen
+  looked : 32 ≤ length w → Entered w (extent_of w role).lane (extent_of w role).height bottom low
+  looked l = rw (read.own l) at seen
 
-  pub lower_none : (x : ℕ) → word_shown low ≡ none → LowerOf w role x x
-  lower_none x q = record { some = λ o l. both (sym (looked.shown o l) ∙ q); none = λ f. refl }
+  short : length w < 32 → low ≡ None
+  short l = seen.nothing (λ o m. omega (arith, ap (λ (i : Extent). i.height.0) (read.short l)))
 
-  pub lower_some : (x y r : ℕ) → word_shown low ≡ some y → r ≡ min x y → LowerOf w role x r
+  pub lower_none : (x : ℕ) → low ≡ None → LowerOf w role x x
+  lower_none x q = record { some = λ o l. both (sym ((looked (omega (arith, o.wide))).shown o l) ∙ q); none = λ f. refl }
+
+  pub lower_some : (x y r : ℕ) → low ≡ Some y → r ≡ min x y → LowerOf w role x r
   lower_some x y r q m = record {
-    some = λ o l. let same = sym q ∙ looked.shown o l in m ∙ ap (min x) cc;
-    none = λ f. both (sym q ∙ looked.nothing f);
+    some = λ o l. let same = sym q ∙ (looked (omega (arith, o.wide))).shown o l in m ∙ ap (min x) cc;
+    none = λ f. ⊎_elim (λ (s : length w < 32). both (sym q ∙ short s)) (λ (l : 32 ≤ length w). both (sym q ∙ (looked l).nothing f)) (lt_or_ge (length w) 32);
   }
 
 -- `close_carried`: the lane is the header's where it has a row
@@ -58,9 +59,9 @@ read_own : {w : List ℕ} {role : Role} {e : Extent} → Read w role e → 0 < e
 read_own {w} {role} {e} r l =
     ⊎_elim (λ (s : length w < 32). absurd (omega (arith, ap (λ (i : Extent). i.rows.0) (r.short s)))) (λ (s : 32 ≤ length w). r.own s) (lt_or_ge (length w) 32)
 
-module _ {w : List ℕ} {e : Extent} {p : Position} {found : Found} (read : Read w Next e) (sought : Sought w e.lane e.rows e.capacity p found) where
+module _ {w : List ℕ} {e : Extent} {p : Position} {found : Option Held} (read : Read w Next e) (sought : Sought w e.lane e.rows e.capacity p found) where
   -- nothing is found
-  pub strikes_nothing : row_of found ≡ none → ClosedNext w w p
+  pub strikes_nothing : found ≡ None → ClosedNext w w p
   strikes_nothing q = record {
     found = found;
     sought = record {
@@ -72,7 +73,7 @@ module _ {w : List ℕ} {e : Extent} {p : Position} {found : Found} (read : Read
   }
 
   -- a row is found and closed
-  pub strikes : {v : List ℕ} (g : Held) → row_of found ≡ some g → Released w v e.lane e.rows g → ClosedNext w v p
+  pub strikes : {v : List ℕ} (g : Held) → found ≡ Some g → Released w v e.lane e.rows g → ClosedNext w v p
   strikes {v} g q closed =
       let own : e ≡ extent_of w Next = read_own read (omega (arith, (sought.sound g q).row)) in
       record {

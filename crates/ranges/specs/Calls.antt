@@ -1,6 +1,5 @@
 -- What each function of the ranges promises: of any words, and of those that hold a history.
-use Rattle.std.specs.Prelude.{◌≡◌, Bool, true, false, cond, List, ℕ, ◌<◌, ◌≤◌, ℤ, length, get_or}
-use Rattle.std.proofs.Math.Option.{Option, none, some}
+use Rattle.std.specs.Prelude.{◌≡◌, Bool, true, false, cond, List, ℕ, Option, None, Some, ◌<◌, ◌≤◌, ℤ, length, get_or}
 use Rattle.history.specs.declared.Position.{Position}
 use Rattle.history.specs.Minimum.{Minimum}
 use Rattle.history.specs.declared.Command.TheVariants.{Value, Mark, Close}
@@ -14,8 +13,6 @@ use Rattle.layout.specs.declared.Role.{Role}
 use Rattle.layout.specs.Words.{Under, extent_of, least_word}
 use Rattle.table.specs.Marks.{Live}
 use Rattle.packing.specs.Packing.{unpacked}
-use Rattle.ranges.specs.declared.Lowest.{Lowest}
-use Rattle.ranges.specs.declared.Lowest.TheVariants.{At, Nothing}
 use Rattle.ranges.specs.Holding.{Holds}
 
 -- what every call has in common, whatever the words hold: as many words, and from 262,656 on, which is where those of 4,096 marks end, each as it was
@@ -41,11 +38,6 @@ pub record Marked (w v : List ℕ) (active : ℕ) (p : Position) (m : Minimum) :
   pub holds : (h : History) (first : List ℕ) → Sound h → Holds h first w → h.standing ≡ Unmarked → length h.active ≡ active → active < h.limit → length w ≡ h.words
       → p ≡ present_of h → m ≡ stands_at (last_of h.values) p → Holds (accept h Mark).history first v
 
--- the minimum that each case of a look-up's answer gives, in the form that document 01 asks of an answer that is an enum
-abbrev pub minimum_of : Lowest → Option Minimum
-minimum_of (At m) = some m
-minimum_of Nothing = none
-
 -- of any words: there is an active mark at position p, in some lane
 abbrev pub MarkedAt : List ℕ → Position → Type 0
 MarkedAt w p = (role : Role) × (g : Held) × Live w (extent_of w role).lane (extent_of w role).rows p g
@@ -55,10 +47,10 @@ abbrev pub EntryOf : List ℕ → Minimum → Type 0
 EntryOf w m = (role : Role) × (t : Place) × Under t (extent_of w role).height × (m ≡ unpacked (least_word w (extent_of w role).lane t))
 
 -- the range minimum of the active mark at position p is looked up. Of any words, where one is shown there is an active mark at p, and what is shown is an entry of a stack
-pub record LookedUp (w : List ℕ) (p : Position) (r : Lowest) : Type 0 where
-  pub live : (m : Minimum) → minimum_of r ≡ some m → MarkedAt w p
-  pub shown : (m : Minimum) → minimum_of r ≡ some m → EntryOf w m
-  pub holds : (h : History) (first : List ℕ) → Holds h first w → minimum_of r ≡ cond (among p h.active) (some (minimum h.values p)) none
+pub record LookedUp (w : List ℕ) (p : Position) (r : Option Minimum) : Type 0 where
+  pub live : (m : Minimum) → r ≡ Some m → MarkedAt w p
+  pub shown : (m : Minimum) → r ≡ Some m → EntryOf w m
+  pub holds : (h : History) (first : List ℕ) → Holds h first w → r ≡ cond (among p h.active) (Some (minimum h.values p)) None
 
 -- the active mark at position p is closed, if there is one. Of any words, where none is found nothing is done
 pub record Closed (w v : List ℕ) (p : Position) (r : Bool) : Type 0 where

@@ -1,6 +1,5 @@
 -- The contracts of the ranges' private functions.
-use Rattle.std.specs.Prelude.{◌≡◌, Bool, true, List, [], ◌∷◌, ◌++◌, ◌⊎◌, ℕ, ◌+◌, ◌*◌, ◌/◌, ◌%◌, ◌<◌, ◌≤◌, min, max, ℤ, length, get_or}
-use Rattle.std.proofs.Math.Option.{none, some}
+use Rattle.std.specs.Prelude.{◌≡◌, Bool, true, List, [], ◌∷◌, ◌++◌, ◌⊎◌, ℕ, Option, None, Some, ◌+◌, ◌*◌, ◌/◌, ◌%◌, ◌<◌, ◌≤◌, min, max, ℤ, length, get_or}
 use Rattle.history.specs.declared.Position.{Position}
 use Rattle.history.specs.Minima.{minimum}
 use Rattle.layout.specs.declared.Held.{Held}
@@ -10,9 +9,8 @@ use Rattle.layout.specs.declared.Role.{Role}
 use Rattle.layout.specs.declared.Role.TheVariants.{Active, Younger, Older, Next}
 use Rattle.layout.specs.Words.{Lower, Under, after, bottom, mark_word, position, least_word, header_of, extent_of, start_of, left_of, run_of, Room, Put, puts}
 use Rattle.layout.specs.Frames.{Kind, Within}
-use Rattle.table.specs.declared.Found.{Found}
 use Rattle.table.specs.Marks.{After}
-use Rattle.table.specs.Calls.{row_of, Sought, Released}
+use Rattle.table.specs.Calls.{Sought, Released}
 use Rattle.packing.specs.Packing.{packed, Faithful}
 use Rattle.stack.specs.Calls.{Advanced}
 use Rattle.ranges.specs.Holding.{LaneHolds, marks_in}
@@ -75,10 +73,10 @@ pub record UpToNow (w : List ℕ) (role : Role) (x r : ℕ) : Type 0 where
 
 -- `close_carried`: the mark at position p is closed in the next lane, if it is found there
 pub record ClosedNext (w v : List ℕ) (p : Position) : Type 0 where
-  pub found : Found
+  pub found : Option Held
   pub sought : Sought w (extent_of w Next).lane (extent_of w Next).rows (extent_of w Next).capacity p found
-  pub lost : row_of found ≡ none → v ≡ w
-  pub closed : (g : Held) → row_of found ≡ some g → Released w v (extent_of w Next).lane (extent_of w Next).rows g
+  pub lost : found ≡ None → v ≡ w
+  pub closed : (g : Held) → found ≡ Some g → Released w v (extent_of w Next).lane (extent_of w Next).rows g
 
 -- `step`: the next row of a lane is carried, with its minimum up to where the active lane starts; where none is left, or its run cannot be read, nothing is done
 pub record Step (w v : List ℕ) (role : Role) : Type 0 where

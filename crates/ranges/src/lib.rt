@@ -8,15 +8,6 @@ ghost use Rattle.ranges.specs.Private.{Chosen, LowerOf, UpToStart, UpToNow, Clos
 
 use history::{Minimum, Position};
 use layout::{Extent, Held, Place, Role};
-use stack::Low;
-use table::Found;
-
-// What a look-up finds.
-#[derive(Clone, Copy)]
-pub enum Lowest {
-    At(Minimum),
-    Nothing,
-}
 
 // Words of any content are opened: four empty lanes. Where they are too few nothing is done.
 pub fn open(area: &mut [u64])
@@ -25,11 +16,7 @@ pub fn open(area: &mut [u64])
     if area.len() < 576 {
         return;
     }
-    let mut i = 0;
-    while i < 32 {
-        area[i] = 0;
-        i += 1;
-    }
+    area[..32].fill(0);
     area[2] = layout::FIRST_ROWS as u64;
     area[8] = 1;
     area[16] = 2;
@@ -44,10 +31,7 @@ pub fn value(area: &mut [u64], m: Minimum)
         return;
     }
     let active = layout::read(area, Role::Active);
-    let lane = active.lane;
-    let height = active.height;
-    let word = packing::pack(m);
-    let top = stack::lower(area, lane, height, word);
+    let top = stack::lower(area, active, packing::pack(m));
     area[3] = top.0 as u64;
 }
 
@@ -67,14 +51,10 @@ fn role_of(area: &[u64], p: Position) -> Role
 
 // The lower of a word and of the lowest entry of a role's lane.
 fn below(area: &[u64], role: Role, word: u64) -> u64
-    requires { 32 ≤ length area.now }
     ensures { LowerOf area.now role word result }
 {
     let e = layout::read(area, role);
-    let lane = e.lane;
-    let height = e.height;
-    let low = stack::entry_at(area, lane, height, Place(0));
-    let Low::At(least) = low else {
+    let Some(least) = stack::entry_at(area, e, Place(0)) else {
         return word;
     };
     if least < word {
@@ -85,7 +65,6 @@ fn below(area: &[u64], role: Role, word: u64) -> u64
 
 // A mark's minimum up to where the active lane starts, from its own lane's.
 fn up_to_start(area: &[u64], role: Role, word: u64) -> u64
-    requires { 32 ≤ length area.now }
     ensures { UpToStart area.now role word result }
 {
     match role {
@@ -98,7 +77,6 @@ fn up_to_start(area: &[u64], role: Role, word: u64) -> u64
 
 // A mark's minimum up to now, from its own lane's.
 fn up_to_now(area: &[u64], role: Role, word: u64) -> u64
-    requires { 32 ≤ length area.now }
     ensures { UpToNow area.now role word result }
 {
     match role {
@@ -110,27 +88,17 @@ fn up_to_now(area: &[u64], role: Role, word: u64) -> u64
 }
 
 // The range minimum of the active mark at a position.
-pub fn look_up(area: &[u64], p: Position) -> Lowest
+pub fn look_up(area: &[u64], p: Position) -> Option<Minimum>
     ensures { LookedUp area.now p result }
 {
     if area.len() < 32 {
-        return Lowest::Nothing;
+        return None;
     }
     let role = role_of(area, p);
     let e = layout::read(area, role);
-    let lane = e.lane;
-    let rows = e.rows;
-    let capacity = e.capacity;
-    let height = e.height;
-    let found = table::find(area, lane, rows, capacity, p);
-    let Found::At(held) = found else {
-        return Lowest::Nothing;
-    };
-    let low = stack::least_at(area, lane, height, held);
-    let Low::At(word) = low else {
-        return Lowest::Nothing;
-    };
-    Lowest::At(packing::unpack(up_to_now(area, role, word)))
+    let held = table::find(area, e, p)?;
+    let word = stack::least_at(area, e, held)?;
+    Some(packing::unpack(up_to_now(area, role, word)))
 }
 
 // The active mark at a position is closed; where there is none nothing is done. Whether there was one. "The Close command is applied to all the structures, including the
@@ -143,18 +111,13 @@ pub fn close(area: &mut [u64], p: Position) -> bool
     }
     let role = role_of(area, p);
     let e = layout::read(area, role);
-    let lane = e.lane;
-    let rows = e.rows;
-    let capacity = e.capacity;
-    let found = table::find(area, lane, rows, capacity, p);
-    let Found::At(held) = found else {
+    let Some(held) = table::find(area, e, p) else {
         return false;
     };
-    table::release(area, lane, rows, held);
-    if area[4] <= p.0 as u64 {
-        return true;
+    table::release(area, e, held);
+    if role != Role::Active {
+        close_carried(area, p);
     }
-    close_carried(area, p);
     true
 }
 
@@ -163,69 +126,52 @@ fn close_carried(area: &mut [u64], p: Position)
     ensures { ClosedNext area.old area.new p }
 {
     let e = layout::read(area, Role::Next);
-    let lane = e.lane;
-    let rows = e.rows;
-    let capacity = e.capacity;
-    let found = table::find(area, lane, rows, capacity, p);
-    let Found::At(held) = found else {
-        return;
-    };
-    table::release(area, lane, rows, held);
+    if let Some(held) = table::find(area, e, p) {
+        table::release(area, e, held);
+    }
 }
 
 // A mark at a position after all others of a lane joins them, with its range minimum as a word. With no row to spare nothing is done. The lane as it is then.
 fn append(area: &mut [u64], e: Extent, p: Position, word: u64) -> Extent
     ensures { Appended area.old area.new e p word result }
 {
-    let lane = e.lane;
-    let rows = e.rows;
-    let capacity = e.capacity;
-    let height = e.height;
-    if !layout::has_room(area, capacity.0) {
+    if !layout::has_room(area, e.capacity.0) {
         return e;
     }
-    if capacity.0 <= rows.0 {
+    if e.capacity <= e.rows {
         return e;
     }
-    if rows.0 < height.0 {
+    if e.rows.0 < e.height.0 {
         return e;
     }
-    table::insert(area, lane, rows, capacity, p);
-    let top = stack::push(area, lane, height, rows, word);
+    table::insert(area, e, p);
+    let height = stack::push(area, e, word);
     Extent {
-        lane,
-        rows: Held(rows.0 + 1),
-        capacity,
-        height: top,
+        rows: Held(e.rows.0 + 1),
+        height,
+        ..e
     }
 }
 
 // A row is carried into the next lane, if its mark is active, with its minimum as a word.
 fn carry(area: &mut [u64], e: Extent, held: Held, word: u64)
-    requires { 32 ≤ length area.old }
     ensures { Carried area.old area.new e held word }
 {
-    let lane = e.lane;
-    let rows = e.rows;
-    if !layout::has_room(area, rows.0) {
+    if !layout::has_room(area, e.rows.0) {
         return;
     }
-    if rows.0 <= held.0 {
+    if e.rows <= held {
         return;
     }
-    let base = 32 + 8 * (lane.0 % 4);
-    let h = held.0;
-    let mark = area[base + 32 * h + 1];
+    let mark = area[e.lane.mark(held)];
     if mark % 2 == 0 {
         return;
     }
     let next = layout::read(area, Role::Next);
-    let p = (mark / 2 % 4294967296) as u32;
-    let grown = append(area, next, Position(p), word);
-    let count = grown.rows;
-    let top = grown.height;
-    area[25] = count.0 as u64;
-    area[27] = top.0 as u64;
+    let p = Position((mark / 2 % 4294967296) as u32);
+    let grown = append(area, next, p, word);
+    area[25] = grown.rows.0 as u64;
+    area[27] = grown.height.0 as u64;
 }
 
 // The next row of a lane is carried, if one is left.
@@ -235,22 +181,19 @@ fn step(area: &mut [u64], role: Role)
 {
     let at = layout::header(role);
     let e = layout::read(area, role);
-    let lane = e.lane;
-    let rows = e.rows;
-    let height = e.height;
-    let left = area[at + 5] as usize;
-    let run = area[at + 6] as usize;
-    if rows.0 <= left {
+    let left = Held(area[at + 5] as usize);
+    let run = Place(area[at + 6] as usize);
+    if e.rows <= left {
         return;
     }
-    let low = stack::entry_at(area, lane, height, Place(run));
-    let Low::At(entry) = low else {
+    let Some(entry) = stack::entry_at(area, e, run) else {
         return;
     };
     let word = up_to_start(area, role, entry);
-    carry(area, e, Held(left), word);
-    let top = stack::advance(area, lane, height, Place(run), Held(left + 1));
-    area[at + 5] = (left + 1) as u64;
+    carry(area, e, left, word);
+    let next = Held(left.0 + 1);
+    let top = stack::advance(area, e, run, next);
+    area[at + 5] = next.0 as u64;
     area[at + 6] = top.0 as u64;
 }
 
@@ -382,11 +325,8 @@ pub fn mark(area: &mut [u64], active: usize, p: Position, m: Minimum)
     }
     turn(area, active, p);
     let e = layout::read(area, Role::Active);
-    let word = packing::pack(m);
-    let grown = append(area, e, p, word);
-    let rows = grown.rows;
-    let top = grown.height;
-    area[1] = rows.0 as u64;
-    area[3] = top.0 as u64;
+    let grown = append(area, e, p, packing::pack(m));
+    area[1] = grown.rows.0 as u64;
+    area[3] = grown.height.0 as u64;
     merge(area);
 }

@@ -3,102 +3,85 @@
 
 mod lines;
 
-ghost use Rattle.std.specs.Prelude.{◌≡◌, ◌+◌, ◌*◌, ◌<◌, ◌≤◌, min, length, take};
+ghost use Rattle.std.specs.Prelude.{◌≡◌, ◌+◌, ◌<◌, ◌≤◌, min, length, take};
 ghost use Rattle.io.specs.Counts.{IsPrefixLen};
-ghost use Rattle.readout.specs.Input.{count_of};
+ghost use Rattle.text.specs.Pages.{HasRoom, Puts};
+ghost use Rattle.readout.specs.Input.{values_of};
 ghost use Rattle.readout.specs.Output.{printed, printed_of, output_of};
 ghost use Rattle.readout.specs.Private.{Performs, Follows};
 
+use following::Progress;
 use numbers::number_at;
+use text::Page;
 use window::Window;
-
-// How far the values have been followed: the session, how many were accepted, and how many bytes are written.
-#[derive(Clone, Copy)]
-struct Progress {
-    session: Window,
-    accepted: usize,
-    used: usize,
-}
 
 // The number of words to lend, of which there are no more than 8,192.
 fn capped(words: u32) -> usize
-    ensures { (result ≡ min words 8192) × (result ≤ 8192) }
+    ensures { result ≡ min words 8192 }
 {
-    if words < 8192 {
-        return words as usize;
-    }
-    8192
+    (words as usize).min(8192)
 }
 
-// The n-th value, with its line, for which there is room. Its running number has no more than five digits.
-fn perform(progress: Progress, area: &mut [u64], n: usize, v: i32, out: &mut [u8]) -> Progress
-    requires { (progress.accepted < n) × (n < 100000) × (progress.used + 33 ≤ length out.old) }
-    ensures { Performs progress n v area.old area.new out.old out.new result }
+// The next value, with its line, for which there is room. Its running number has no more than five digits.
+fn perform(
+    progress: Progress<Window>,
+    area: &mut [u64],
+    v: i32,
+    page: &mut Page<'_>,
+) -> Progress<Window>
+    requires number { progress.read < 99999 }
+    requires room { HasRoom page.old 33 }
+    ensures performs { Performs progress v area.old area.new page.old page.new result }
+    ensures few { page.new.used ≤ page.old.used + 33 }
 {
     let answer = window::value(progress.session, area, v);
-    let reply = answer.reply;
-    let session = answer.session;
-    let used = lines::value(out, progress.used, n, reply);
-    Progress {
-        session,
-        accepted: progress.accepted + history::acceptances_of(reply),
-        used,
-    }
+    lines::value(page, progress.read + 1, answer.reply);
+    progress.after(answer)
 }
 
-// The values go to the session one after the other: `count` of them, all that have their four bytes.
-fn follow(
-    bytes: &[u8],
-    count: usize,
-    area: &mut [u64],
-    session: Window,
-    out: &mut [u8],
-    start: usize,
-) -> Progress
-    requires { (count ≡ count_of bytes.now) × (length bytes.now ≤ 65536) × (start + 540606 ≤ length out.old) }
-    ensures { Follows session area.old bytes.now out.old start out.new result }
+// The values go to the session one after the other, all that have their four bytes.
+fn follow(bytes: &[u8], area: &mut [u64], session: Window, page: &mut Page<'_>) -> Progress<Window>
+    requires some { 8 ≤ length bytes.now }
+    requires most { length bytes.now ≤ 65536 }
+    requires room { HasRoom page.old 540606 }
+    ensures follows { Follows session (values_of bytes.now) area.old area.new page.old page.new result }
+    ensures few { page.new.used ≤ page.old.used + 540606 }
 {
-    let mut progress = Progress {
-        session,
-        accepted: 0,
-        used: start,
-    };
-    let mut i = 0;
-    while i < count {
-        let v = numbers::value_at(bytes, 8 + 4 * i);
-        i += 1;
-        progress = perform(progress, area, i, v, out);
+    let mut progress = Progress::new(session);
+    for four in bytes[8..].chunks_exact(4) {
+        progress = perform(progress, area, numbers::value_at(four, 0), page);
     }
     progress
 }
 
 // A window on the words lent, from its opening to its last line.
-fn run(bytes: &[u8], area: &mut [u64], out: &mut [u8]) -> usize
-    requires { (8 ≤ length bytes.now) × (length bytes.now ≤ 65536) × (540710 ≤ length out.old) }
-    ensures { (take result out.new ≡ printed (length area.old) bytes.now) × IsPrefixLen result out.new }
+fn run(bytes: &[u8], area: &mut [u64], page: &mut Page<'_>)
+    requires some { 8 ≤ length bytes.now }
+    requires most { length bytes.now ≤ 65536 }
+    requires room { HasRoom page.old 540710 }
+    ensures text { Puts page.old (printed (length area.old) bytes.now) page.new }
 {
     let opened = window::open(area, number_at(bytes, 0) as usize);
-    let reply = opened.reply;
-    let session = opened.session;
-    let start = lines::opening(out, 0, reply);
-    let behind = bytes.len() - 8;
-    let count = behind / 4;
-    let progress = follow(bytes, count, area, session, out, start);
-    let stopped = text::put_stop(out, progress.used, behind % 4, 8 + 4 * count);
-    lines::end(out, stopped, count, progress.accepted)
+    lines::opening(page, opened.reply);
+    let progress = follow(bytes, area, opened.session, page);
+    let left = bytes.len() % 4;
+    page.put_stop(left, bytes.len() - left);
+    lines::end(page, progress.read, progress.accepted);
 }
 
 // All that is printed of bytes that are all read.
-fn play(bytes: &[u8], out: &mut [u8]) -> usize
-    requires { (length bytes.now ≤ 65536) × (540710 ≤ length out.old) }
-    ensures { (take result out.new ≡ printed_of bytes.now) × IsPrefixLen result out.new }
+fn play(bytes: &[u8], page: &mut Page<'_>)
+    requires most { length bytes.now ≤ 65536 }
+    requires room { HasRoom page.old 540710 }
+    ensures text { Puts page.old (printed_of bytes.now) page.new }
 {
     if bytes.len() < 8 {
-        return lines::no_window(out, 0);
+        lines::no_window(page);
+        return;
     }
     let words = capped(number_at(bytes, 4));
     let mut area = [0u64; 8192];
-    run(bytes, &mut area[..words], out)
+    run(bytes, &mut area[..words], page);
 }
 
 // Writes all that is printed of an input, of which no more than the first 65,536 bytes are read, and returns how many bytes that is: a number of bytes at the start of `out`, which is what
@@ -107,8 +90,7 @@ pub fn write(bytes: &[u8], out: &mut [u8; 540710]) -> usize
     ensures out_after { take result out.new ≡ output_of bytes.now }
     ensures prefix_len { IsPrefixLen result out.new }
 {
-    if bytes.len() <= 65536 {
-        return play(bytes, out);
-    }
-    play(&bytes[..65536], out)
+    let mut page = Page::new(out);
+    play(&bytes[..bytes.len().min(65536)], &mut page);
+    page.used
 }

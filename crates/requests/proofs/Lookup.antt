@@ -7,7 +7,7 @@ use lib.IntN.{ℤ}
 use lib.ListN.{length, set}
 use borrow.Author.Tests.{ne_eqb}
 use Rattle.history.specs.Minima.{lowest}
-use Rattle.blocks.specs.declared.Found.{Found}
+use Rattle.blocks.specs.Found.{Found}
 use Rattle.blocks.specs.Takes.{block_minima_from}
 use Rattle.blocks.specs.Calls.{Choice}
 use Rattle.numbers.specs.FourBytes.{values_from}

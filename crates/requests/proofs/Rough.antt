@@ -5,6 +5,8 @@ use mathlib.Core.Path.{◌≡◌, refl, ap, ◌∙◌}
 use mathlib.Core.Bool.{true}
 use mathlib.Core.List.{List, [], ◌∷◌, map}
 use mathlib.Core.Logic.{◌⊎◌, inl, inr}
+use Rattle.std.specs.Prelude.{Result}
+use Rattle.history.specs.declared.Refusal.{Refusal}
 use Rattle.std.specs.Prelude.{None, Some}
 use Prim.Native.Nat.{ℕ, ◌+◌, ◌-◌, ◌/◌, ◌<◌, ◌≤◌, min}
 use native.Mathlib.Omega.{arith}
@@ -22,13 +24,12 @@ use Rattle.history.specs.Minimum.{Minimum}
 use Rattle.history.specs.Minima.{minimum}
 use Rattle.history.specs.Replies.{showing}
 use Rattle.history.proofs.Lowest.{minimum_least, least_only}
-use Rattle.blocks.specs.declared.Found.{Found}
-use Rattle.blocks.specs.declared.Reply.{Reply}
+use Rattle.blocks.specs.Found.{Found}
 use Rattle.blocks.specs.Takes.{from_zero, range_minimum, block_minima}
 use Rattle.blocks.specs.Takes as takes
 use Rattle.blocks.specs.Examples.{Each}
 use Rattle.blocks.proofs.Tied.{Built, Searched}
-use Rattle.rough.specs.declared.Reading.{Reading}
+use Rattle.rough.specs.declared.Figures.{Figures}
 use Rattle.rough.specs.Looks.{Look, Entry, Value, looks, looks_used, rough_reading, told}
 use Rattle.rough.specs.Promises.{read_by, Partly, Among, Before, InOrder, MakesKnown, Point6}
 use Rattle.rough.specs.Examples.{roughed, readings, ordered, orders, Gives, full_count}
@@ -63,10 +64,10 @@ readings_given : Each (Gives Read) readings
 readings_given = worked.readings_given
 
 -- the function promises the definition's reading, of all that it is given, and no more is learnt of it; and it asks for nothing
-reads_as_promised : (values index : List ℤ) (i j B : ℕ) (r : Reading) → Read values index i j B r → told r ≡ rough_reading values index i j B
+reads_as_promised : (values index : List ℤ) (i j B : ℕ) (r : Result Figures Refusal) → Read values index i j B r → told r ≡ rough_reading values index i j B
 reads_as_promised values index i j B r (κs, x, y, d) = d
 
-reads_no_more : (values index : List ℤ) (i j B : ℕ) (r : Reading) → told r ≡ rough_reading values index i j B → Read values index i j B r
+reads_no_more : (values index : List ℤ) (i j B : ℕ) (r : Result Figures Refusal) → told r ≡ rough_reading values index i j B → Read values index i j B r
 reads_no_more = read_of
 
 read_asks_nothing : (κs : Lfts 2) (x y : Bor (List ℤ)) (i j B : ℕ) → read-reads.Asked κs (x, (y, (i, (j, (B, tt)))))
@@ -136,7 +137,7 @@ rest_in_order : (x : Look) (ls : List Look) → InOrder (x ∷ ls) → InOrder l
 rest_in_order x ls o = o.1
 
 -- EVERY READING, over any index
-module _ (values index : List ℤ) (i j B : ℕ) (r : Reading) (q : Read values index i j B r) where
+module _ (values index : List ℤ) (i j B : ℕ) (r : Result Figures Refusal) (q : Read values index i j B r) where
   -- "Replies 14 and 15 hold here too, for B = 0 as well, with 0 looks used and neither figure shown"
   pub rough_15 : (length index ≡ (length values + 63) / 64 → ⊥) → told r ≡ record { number = 15; looks = 0; high = None; low = None }
   rough_15 n = (functions.point_6.reading values index i j B r q).other_index n
@@ -191,11 +192,11 @@ module _ (values index : List ℤ) (i j B : ℕ) (r : Reading) (q : Read values 
   pub rough_unknown : length index ≡ (length values + 63) / 64 → i ≤ j → j < length values → (told r).high ≡ None → (k : ℕ) → Among (Value k) (looks_used (length values) i j B) → ⊥
   rough_unknown n l h e k m = (functions.point_6.reading values index i j B r q).unknown n l h e (Value k) m tt
 
-pub rough_nothing : (values index : List ℤ) (i j : ℕ) (r : Reading) → Read values index i j 0 r → length index ≡ (length values + 63) / 64 → i ≤ j → j < length values → told r ≡ record { number = 0; looks = 0; high = None; low = Some (negsuc 2147483647) }
+pub rough_nothing : (values index : List ℤ) (i j : ℕ) (r : Result Figures Refusal) → Read values index i j 0 r → length index ≡ (length values + 63) / 64 → i ≤ j → j < length values → told r ≡ record { number = 0; looks = 0; high = None; low = Some (negsuc 2147483647) }
 rough_nothing values index i j r q n l h = (functions.point_6.reading values index i j 0 r q).nothing n l h refl
 
 -- OVER AN INDEX BUILT FROM THAT TAKE
-module _ (values index : List ℤ) (i j B : ℕ) (r : Reading) (q : Read values index i j B r) (e : index ≡ block_minima values) (l : i ≤ j) (h : j < length values) where
+module _ (values index : List ℤ) (i j B : ℕ) (r : Result Figures Refusal) (q : Read values index i j B r) (e : index ≡ block_minima values) (l : i ≤ j) (h : j < length values) where
   -- "both equal the exact least value once the full count is used": a value of the range, than which no other there is lower
   pub rough_exact : length (looks (length values) i j) ≤ B → (v : ℤ) × ((told r).high ≡ Some v) × ((told r).low ≡ Some v) × ((k : ℕ) × (i ≤ k) × (k ≤ j) × (get_or values k (pos 0) ≡ v)) × ((k : ℕ) → i ≤ k → k ≤ j → le_z v (get_or values k (pos 0)) ≡ true)
   rough_exact b =
@@ -214,7 +215,7 @@ module _ (values index : List ℤ) (i j B : ℕ) (r : Reading) (q : Read values 
       (p.0, p.1, p.2, ap (λ (x : ℤ). le_z x v) p.3 ∙ (functions.point_6.built values index i j B r q e l h).above v s)
 
 -- "a bigger budget never lowers low, raises a shown high or takes one away"
-module _ (values index : List ℤ) (i j B C : ℕ) (r s : Reading) (q : Read values index i j B r) (p : Read values index i j C s) (n : length index ≡ (length values + 63) / 64) (l : i ≤ j) (h : j < length values) (b : B ≤ C) where
+module _ (values index : List ℤ) (i j B C : ℕ) (r s : Result Figures Refusal) (q : Read values index i j B r) (p : Read values index i j C s) (n : length index ≡ (length values + 63) / 64) (l : i ≤ j) (h : j < length values) (b : B ≤ C) where
   pub low_rises : index ≡ block_minima values → ((k : ℕ) → k < length values → le_z (negsuc 2147483647) (get_or values k (pos 0)) ≡ true) → (v w : ℤ) → (told r).low ≡ Some v → (told s).low ≡ Some w → le_z v w ≡ true
   low_rises e m v w x y = (functions.point_6.bigger values index i j B C r s q p n l h b).low e m v w x y
 
@@ -222,7 +223,7 @@ module _ (values index : List ℤ) (i j B C : ℕ) (r s : Reading) (q : Read val
   high_falls v x = (functions.point_6.bigger values index i j B C r s q p n l h b).high v x
 
 -- the looks are real: a value that no look that is used reads may be another, and so may an entry
-pub looks_are_real : (values index others entries : List ℤ) (i j B : ℕ) (r s : Reading) → Read values index i j B r → Read others entries i j B s → length values ≡ length others → length index ≡ length entries → map (read_by values index) (looks_used (length values) i j B) ≡ map (read_by others entries) (looks_used (length values) i j B) → told r ≡ told s
+pub looks_are_real : (values index others entries : List ℤ) (i j B : ℕ) (r s : Result Figures Refusal) → Read values index i j B r → Read others entries i j B s → length values ≡ length others → length index ≡ length entries → map (read_by values index) (looks_used (length values) i j B) ≡ map (read_by others entries) (looks_used (length values) i j B) → told r ≡ told s
 looks_are_real values index others entries i j B r s q p n m e = functions.point_6.agreed values index others entries i j B r s q p n m e
 
 -- what a look reads is the entry or the value
@@ -233,7 +234,7 @@ reads_value : (values index : List ℤ) (k : ℕ) → read_by values index (Valu
 reads_value values index k = refl
 
 -- as it is used: an index that `build` left, whatever it held before; with all looks, both figures are what `search` shows
-built_and_read : (values before after : List ℤ) (b s : Reply) (i j B : ℕ) (r : Reading) → Built values before after b → Searched values after i j s → Read values after i j B r → length before ≡ (length values + 63) / 64 → i ≤ j → j < length values → length (looks (length values) i j) ≤ B → (f : Found) × (takes.told s ≡ showing f) × ((told r).high ≡ Some f.value) × ((told r).low ≡ Some f.value)
+built_and_read : (values before after : List ℤ) (b : Result (Unit {0}) Refusal) (s : Result Found Refusal) (i j B : ℕ) (r : Result Figures Refusal) → Built values before after b → Searched values after i j s → Read values after i j B r → length before ≡ (length values + 63) / 64 → i ≤ j → j < length values → length (looks (length values) i j) ≤ B → (f : Found) × (takes.told s ≡ showing f) × ((told r).high ≡ Some f.value) × ((told r).low ≡ Some f.value)
 built_and_read values before after b s i j B r p t q n l h c =
     let e = (index_built values before after b p n).1 in
     let x = (functions.point_6.built values after i j B r q e l h).exact c in

@@ -5,6 +5,8 @@ use mathlib.Core.Path.{◌≡◌, refl, sym, ap, ◌∙◌}
 use mathlib.Core.Bool.{true}
 use mathlib.Core.List.{List, [], ◌∷◌, map}
 use mathlib.Core.Logic.{◌⊎◌}
+use Rattle.std.specs.Prelude.{Result}
+use Rattle.history.specs.declared.Refusal.{Refusal}
 use Rattle.std.specs.Prelude.{Some}
 use Prim.Native.Nat.{ℕ, ◌+◌, ◌-◌, ◌/◌, ◌<◌, ◌≤◌, min}
 use lib.IntN.{ℤ, pos, negsuc}
@@ -17,7 +19,7 @@ use denote.Builtin.{SliceRefOf, usize, i32}
 use denote.Struct.Field.{usize-field, u32-field, i32-field}
 use Rattle.laws.proofs.Order.{le_z_trans}
 use Rattle.blocks.specs.Takes.{range_minimum, block_minima}
-use Rattle.rough.specs.declared.Reading.{Reading}
+use Rattle.rough.specs.declared.Figures.{Figures}
 use Rattle.rough.specs.Looks.{Value, looks, looks_used, ToldReading, rough_reading, told}
 use Rattle.rough.specs.Promises.{ReadSays, read_by, Among, Point6}
 use Rattle.rough.proofs.Truth.{true_stands, true_under}
@@ -84,7 +86,7 @@ pub record Exact (values : List ℤ) (i j : ℕ) (r : ReadingNumbers) : Type 0 w
 
 -- EVERY READING, over any index
 module _ (values index : List ℤ) (i j B : ℕ) (r : ReadingNumbers) (t : RoughTold values index i j B r) where
-  abbrev reading : Reading
+  abbrev reading : Result Figures Refusal
   reading = t.3.reading
 
   rough_15 : (length index ≡ (length values + 63) / 64 → ⊥) → r ≡ plainly 15
@@ -181,5 +183,5 @@ built_and_read values before after i j r b t l h c =
     record { known = x.0; same = x.1; stands = x.2; least = x.3 }
 
 -- THE CONVERSE: no more is learnt of the function that C calls than its contract says. The references may be any
-rough_told_of : (values index : List ℤ) (i j B : ℕ) (a : Reading) → told a ≡ rough_reading values index i j B → RoughTold values index i j B (reading_in_numbers (told a))
+rough_told_of : (values index : List ℤ) (i j B : ℕ) (a : Result Figures Refusal) → told a ≡ rough_reading values index i j B → RoughTold values index i j B (reading_in_numbers (told a))
 rough_told_of values index i j B a d = (([], ([], tt)), (0, 0), (0, 0), record { reading = a; reads = d; numbers = refl })

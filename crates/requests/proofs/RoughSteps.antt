@@ -2,6 +2,8 @@
 use mathlib.Core.Path.{◌≡◌, refl, sym, ap, ◌∙◌}
 use mathlib.Core.Bool.{true}
 use mathlib.Core.List.{List}
+use Rattle.std.specs.Prelude.{Result}
+use Rattle.history.specs.declared.Refusal.{Refusal}
 use Rattle.std.specs.Prelude.{Option, None, Some}
 use Prim.Native.Nat.{ℕ, ◌<◌, ◌≤◌}
 use native.Mathlib.Omega.{arith}
@@ -9,7 +11,7 @@ use lib.IntN.{ℤ, pos}
 use lib.Signed.{le_z}
 use lib.ListN.{length, get_or}
 use Rattle.blocks.specs.Takes.{range_minimum, block_minima}
-use Rattle.rough.specs.declared.Reading.{Reading}
+use Rattle.rough.specs.declared.Figures.{Figures}
 use Rattle.rough.specs.Looks.{looks, ToldReading, rough_reading, told}
 use Rattle.rough.specs.Promises.{Point6}
 use Rattle.rough.proofs.Point as point
@@ -31,7 +33,7 @@ pub shown_low : (t : ToldReading) (v : ℤ) → t.low ≡ Some v → (reading_in
 shown_low t v e = ap shown_number e
 
 -- at the full count, over an index built from that take: a high figure is shown, low is it, a value of the range is it, and it is at most each
-pub exact : (values index : List ℤ) (i j B : ℕ) (r : ReadingNumbers) (a : Reading) → told a ≡ rough_reading values index i j B → r ≡ reading_in_numbers (told a) → index ≡ block_minima values → i ≤ j → j < length values
+pub exact : (values index : List ℤ) (i j B : ℕ) (r : ReadingNumbers) (a : Result Figures Refusal) → told a ≡ rough_reading values index i j B → r ≡ reading_in_numbers (told a) → index ≡ block_minima values → i ≤ j → j < length values
     → length (looks (length values) i j) ≤ B
     → (r.known ≡ 1) × (r.low ≡ r.high) × ((k : ℕ) × (i ≤ k) × (k ≤ j) × (get_or values k (pos 0) ≡ r.high)) × ((k : ℕ) → i ≤ k → k ≤ j → le_z r.high (get_or values k (pos 0)) ≡ true)
 exact values index i j B r a d m e l h b =

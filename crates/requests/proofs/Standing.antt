@@ -12,7 +12,8 @@ use Rattle.history.specs.declared.Session.{Session}
 use Rattle.history.specs.declared.Command.{Command}
 use Rattle.history.specs.declared.Command.TheVariants.{Mark}
 use Rattle.history.specs.declared.Event.{Event}
-use Rattle.history.specs.declared.Due.{Due}
+use Rattle.std.specs.Prelude.{Option}
+use Rattle.history.specs.declared.Refusal.{Refusal}
 use Rattle.history.specs.declared.Transition.{Transition}
 use Rattle.history.specs.Standings.{event_of, transition_of}
 use Rattle.history.specs.StateVariable.{by_section_2}
@@ -29,9 +30,9 @@ as_document_01 = law.as_document_01
 abbrev numbered : Transition → ℕ × Standing
 numbered t = (number t.due, t.after)
   where
-    number : Due → ℕ
-    number Due.Nothing = 0
-    number (Due.Refused why) = number_of why
+    number : Option Refusal → ℕ
+    number Option.None = 0
+    number (Option.Some why) = number_of why
 
 -- of an event, at none, unmarked, marked and closed
 abbrev row : Event → List (ℕ × Standing)

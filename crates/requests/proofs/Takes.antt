@@ -14,13 +14,14 @@ use contract.Lifetimes.{Lfts}
 use denote.Ref.{Bor, MutBor}
 use denote.Signature.{plain}
 use denote.Builtin.{SliceRefOf, usize, i32}
+use Rattle.std.specs.Prelude.{Result}
+use Rattle.history.specs.declared.Refusal.{Refusal}
 use Rattle.history.specs.Minimum.{Minimum}
 use Rattle.history.specs.Minima.{lowest, Least}
 use Rattle.history.specs.Replies.{numbered, showing}
 use Rattle.history.proofs.Lowest.{least_only}
-use Rattle.blocks.specs.declared.Found.{Found}
-use Rattle.blocks.specs.declared.Reply.{Reply}
-use Rattle.blocks.specs.Takes.{from_zero, block_of, block_minima_from, block_minima, told}
+use Rattle.blocks.specs.Found.{Found}
+use Rattle.blocks.specs.Takes.{from_zero, block_of, block_minima_from, block_minima, told, told_building}
 use Rattle.blocks.specs.Calls.{Builds, Searches, Stretches}
 use Rattle.blocks.specs.Promises.{Point3, TellsLeast}
 use Rattle.blocks.specs.Examples.{searched, searches, indexed, indexes, stretched, stretches, SearchGives, BuildGives, StretchGives, Each}
@@ -57,19 +58,19 @@ stretches_given : Each (StretchGives Stretched) stretches
 stretches_given = worked.stretches_given
 
 -- each function promises its contract, of all that it is given, and no more is learnt of it
-builds_as_promised : (values before after : List ℤ) (r : Reply) → Built values before after r → Builds values before after r
+builds_as_promised : (values before after : List ℤ) (r : Result (Unit {0}) Refusal) → Built values before after r → Builds values before after r
 builds_as_promised values before after r (κs, x, y, d) = d
 
-searches_as_promised : (values index : List ℤ) (i j : ℕ) (r : Reply) → Searched values index i j r → Searches values index i j r
+searches_as_promised : (values index : List ℤ) (i j : ℕ) (r : Result Found Refusal) → Searched values index i j r → Searches values index i j r
 searches_as_promised values index i j r (κs, x, y, d) = d
 
 stretches_as_promised : (at : ℕ × ℕ) (values : List ℤ) (i j : ℕ) (start : ℕ × ℕ) (part : List ℤ) → Stretched at values i j start part → Stretches at values i j start part
 stretches_as_promised at values i j start part (κs, d) = d
 
-builds_no_more : (values before after : List ℤ) (r : Reply) → Builds values before after r → Built values before after r
+builds_no_more : (values before after : List ℤ) (r : Result (Unit {0}) Refusal) → Builds values before after r → Built values before after r
 builds_no_more = built_of
 
-searches_no_more : (values index : List ℤ) (i j : ℕ) (r : Reply) → Searches values index i j r → Searched values index i j r
+searches_no_more : (values index : List ℤ) (i j : ℕ) (r : Result Found Refusal) → Searches values index i j r → Searched values index i j r
 searches_no_more = searched_of
 
 stretches_no_more : (at : ℕ × ℕ) (values : List ℤ) (i j : ℕ) (start : ℕ × ℕ) (part : List ℤ) → Stretches at values i j start part → Stretched at values i j start part
@@ -93,22 +94,22 @@ stretch_gives : (stretch-function.signature).result ≡ SliceRefOf (0 ∷ []) tt
 stretch_gives = refl
 
 -- the first worked examples, of any call: a search of 3, 1, 2, 1; building for no values; and the stretch of the two in the middle
-first_search : (r : Reply) → Searched (pos 3 ∷ pos 1 ∷ pos 2 ∷ pos 1 ∷ []) (pos 1 ∷ []) 0 3 r → told r ≡ showing (record { value = pos 1; place = record { 0 = 1 } })
+first_search : (r : Result Found Refusal) → Searched (pos 3 ∷ pos 1 ∷ pos 2 ∷ pos 1 ∷ []) (pos 1 ∷ []) 0 3 r → told r ≡ showing (record { value = pos 1; place = record { 0 = 1 } })
 unfolding lowest block_minima_from
 first_search r q = worked.searches_given.0 (pos 1 ∷ []) r q refl (λ n. refl)
 
-first_index : (before after : List ℤ) (r : Reply) → Built [] before after r → length before ≡ 0 → (told r ≡ numbered 0) × (after ≡ [])
+first_index : (before after : List ℤ) (r : Result (Unit {0}) Refusal) → Built [] before after r → length before ≡ 0 → (told_building r ≡ numbered 0) × (after ≡ [])
 first_index before after r q n = worked.indexes_given.0 before after r q n
 
 second_stretch : (at start : ℕ × ℕ) (part : List ℤ) → Stretched at (pos 3 ∷ pos 1 ∷ pos 2 ∷ pos 1 ∷ []) 1 2 start part → part ≡ pos 1 ∷ pos 2 ∷ []
 second_stretch at start part q = worked.stretches_given.1.0 at start part q
 
 -- BUILDING, of any take and any index. "Building writes every index entry and nothing else"; an index of another length gets 15, and is not written
-module _ (values before after : List ℤ) (r : Reply) (q : Built values before after r) where
-  pub index_built : length before ≡ (length values + 63) / 64 → (told r ≡ numbered 0) × (after ≡ block_minima values)
+module _ (values before after : List ℤ) (r : Result (Unit {0}) Refusal) (q : Built values before after r) where
+  pub index_built : length before ≡ (length values + 63) / 64 → (told_building r ≡ numbered 0) × (after ≡ block_minima values)
   index_built n = (functions.point_3.building values before after r q).writes n
 
-  pub index_refused : (length before ≡ (length values + 63) / 64 → ⊥) → (told r ≡ numbered 15) × (after ≡ before)
+  pub index_refused : (length before ≡ (length values + 63) / 64 → ⊥) → (told_building r ≡ numbered 15) × (after ≡ before)
   index_refused n = (functions.point_3.building values before after r q).refused n
 
 -- "An empty take has an empty index"
@@ -144,7 +145,7 @@ module _ (values : List ℤ) where
       (e.0.place.0 - 1, omega (arith, e.1.from, e.1.to), rw e.2 e.1.stands)
 
 -- WHAT IS TOLD OF A LEAST, in offsets: it stands in the range, no value there is lower, and each earlier one there is higher
-module _ (values : List ℤ) (i j : ℕ) (s : Reply) (l : i ≤ j) (h : j < length values) (t : TellsLeast values i j s) where
+module _ (values : List ℤ) (i j : ℕ) (s : Result Found Refusal) (l : i ≤ j) (h : j < length values) (t : TellsLeast values i j s) where
   abbrev m : Minimum
   m = t.0
 
@@ -204,7 +205,7 @@ module _ (values : List ℤ) (i j : ℕ) (s : Reply) (l : i ≤ j) (h : j < leng
       ∙ ap (λ (k : ℕ). showing (record { value = f.value; place = record { 0 = k } })) back
 
 -- SEARCHING, over any index
-module _ (values index : List ℤ) (i j : ℕ) (r : Reply) (q : Searched values index i j r) where
+module _ (values index : List ℤ) (i j : ℕ) (r : Result Found Refusal) (q : Searched values index i j r) where
   -- "before it, 15 when the index length is not the number of blocks", whatever i and j are
   pub fifteen : (length index ≡ (length values + 63) / 64 → ⊥) → told r ≡ numbered 15
   fifteen n = (functions.point_3.searching values index i j r q).other_index n
@@ -225,7 +226,7 @@ module _ (values index : List ℤ) (i j : ℕ) (r : Reply) (q : Searched values 
   shown_least e l h = (functions.point_3.searching values index i j r q).least e l h
 
 -- a search over the index that was built
-searched_built : (values before after : List ℤ) (b s : Reply) (i j : ℕ) → Built values before after b → Searched values after i j s
+searched_built : (values before after : List ℤ) (b : Result (Unit {0}) Refusal) (s : Result Found Refusal) (i j : ℕ) → Built values before after b → Searched values after i j s
     → length before ≡ (length values + 63) / 64 → i ≤ j → j < length values → TellsLeast values i j s
 searched_built values before after b s i j p q n l h = functions.point_3.built values before after b s i j p q n l h
 

@@ -15,8 +15,10 @@ use denote.Ref.{Bor, MutBor, at_last}
 use denote.Signature.{plain}
 use denote.Builtin.{SliceRefOf, SliceRefMutOf, usize, u32, i32}
 use denote.Struct.Field.{usize-field, u32-field, i32-field}
-use Rattle.blocks.specs.declared.Reply.{Reply}
-use Rattle.blocks.specs.Takes.{block_minima, told}
+use Rattle.blocks.specs.Found.{Found}
+use Rattle.std.specs.Prelude.{Result}
+use Rattle.history.specs.declared.Refusal.{Refusal}
+use Rattle.blocks.specs.Takes.{block_minima, told, told_building}
 use Rattle.blocks.specs.Calls.{Builds, Searches, Stretches}
 use Rattle.blocks.specs.Promises.{TellsLeast, Point3}
 use Rattle.blocks.proofs.Point as point
@@ -97,7 +99,7 @@ pub record Shows (values : List ℤ) (i j : ℕ) (r : FoundNumbers) : Type 0 whe
   pub least : (k : ℕ) → i ≤ k → k ≤ j → le_z r.value (get_or values k (pos 0)) ≡ true
   pub earliest : (k : ℕ) → i ≤ k → k < r.place → le_z (get_or values k (pos 0)) r.value ≡ false
 
-tells : (values : List ℤ) (i j : ℕ) (a : Reply) (r : FoundNumbers) → r ≡ in_numbers (told a) → i ≤ j → j < length values → TellsLeast values i j a → Shows values i j r
+tells : (values : List ℤ) (i j : ℕ) (a : Result Found Refusal) (r : FoundNumbers) → r ≡ in_numbers (told a) → i ≤ j → j < length values → TellsLeast values i j a → Shows values i j r
 tells values i j a r e l h t =
     let inside = found_inside values i j a l h t in
     rw (e, found-told values i j a l h t) (record {
@@ -140,8 +142,8 @@ built_and_searched values before after i j r b t l h =
     record { accepted = s.accepted; from = s.from; to = s.to; stands = s.stands; least = s.least; earliest = s.earliest }
 
 -- THE CONVERSES: no more is learnt of the functions that C calls than their contracts say, so that what stands above is of all that these allow
-build_told_of : (values before after : List ℤ) (a : Reply) → Builds values before after a → BuildTold values before after (told a).number
+build_told_of : (values before after : List ℤ) (a : Result (Unit {0}) Refusal) → Builds values before after a → BuildTold values before after (told_building a).number
 build_told_of = steps.build_learnt_of
 
-search_told_of : (values index : List ℤ) (i j : ℕ) (a : Reply) → Searches values index i j a → SearchTold values index i j (in_numbers (told a))
+search_told_of : (values index : List ℤ) (i j : ℕ) (a : Result Found Refusal) → Searches values index i j a → SearchTold values index i j (in_numbers (told a))
 search_told_of = steps.search_learnt_of

@@ -11,9 +11,11 @@ use lib.Signed.{le_z}
 use lib.ListN.{length, get_or}
 use contract.Lifetimes.{Lfts}
 use denote.Ref.{MutBor, at_last}
+use Rattle.blocks.specs.Found.{Found}
+use Rattle.std.specs.Prelude.{Result}
+use Rattle.history.specs.declared.Refusal.{Refusal}
 use Rattle.history.specs.Replies.{showing}
-use Rattle.blocks.specs.declared.Reply.{Reply}
-use Rattle.blocks.specs.Takes.{Told, block_count, block_minima, told}
+use Rattle.blocks.specs.Takes.{Told, block_count, block_minima, told, told_building}
 use Rattle.blocks.specs.Calls.{Builds, Searches, Stretches}
 use Rattle.blocks.specs.Promises.{TellsLeast, Point3}
 use Rattle.blocks.proofs.Point as point
@@ -63,7 +65,7 @@ pub record Shown (values : List ℤ) (i j : ℕ) (r : FoundNumbers) : Type 0 whe
   pub least : (k : ℕ) → i ≤ k → k ≤ j → le_z r.value (get_or values k (pos 0)) ≡ true
   pub earliest : (k : ℕ) → i ≤ k → k < r.place → le_z (get_or values k (pos 0)) r.value ≡ false
 
-tells : (values : List ℤ) (i j : ℕ) (a : Reply) (r : FoundNumbers) → r ≡ in_numbers (told a) → i ≤ j → j < length values → TellsLeast values i j a → Shown values i j r
+tells : (values : List ℤ) (i j : ℕ) (a : Result Found Refusal) (r : FoundNumbers) → r ≡ in_numbers (told a) → i ≤ j → j < length values → TellsLeast values i j a → Shown values i j r
 tells values i j a r e l h t =
     let inside = found_inside values i j a l h t in
     rw (e, found-told values i j a l h t) (record {
@@ -94,8 +96,8 @@ module _ (values index : List ℤ) (i j : ℕ) (r : FoundNumbers) (t : SearchLea
 any : MutBor (List ℤ)
 any = record { ref_ptr = (0, 0); ghost_name = 0; now = [] }
 
-pub build_learnt_of : (values before after : List ℤ) (a : Reply) → Builds values before after a → BuildLearnt values before after (told a).number
+pub build_learnt_of : (values before after : List ℤ) (a : Result (Unit {0}) Refusal) → Builds values before after a → BuildLearnt values before after (told_building a).number
 build_learnt_of values before after a d = (([], ([], tt)), (0, 0), any, record { reply = a; builds = d; number = refl })
 
-pub search_learnt_of : (values index : List ℤ) (i j : ℕ) (a : Reply) → Searches values index i j a → SearchLearnt values index i j (in_numbers (told a))
+pub search_learnt_of : (values index : List ℤ) (i j : ℕ) (a : Result Found Refusal) → Searches values index i j a → SearchLearnt values index i j (in_numbers (told a))
 search_learnt_of values index i j a d = (([], ([], tt)), (0, 0), (0, 0), record { reply = a; searches = d; numbers = refl })

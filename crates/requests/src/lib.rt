@@ -13,8 +13,7 @@ ghost use Rattle.requests.specs.Lookup.{found};
 use window::Window;
 
 // The calls of `Witness.leaving`. The first is lent no words.
-fn leave(s: Window, area: &mut [u64], other: &mut [u64]) -> Window
-    requires { length area.old ≡ 4 }
+fn leave(s: Window, area: &mut [u64; 4], other: &mut [u64; 5]) -> Window
     ensures { Valued 4 s area.old area.new (asked leaving) result }
 {
     let none = window::value(s, &mut other[0..0], -9);

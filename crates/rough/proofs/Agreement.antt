@@ -1,8 +1,9 @@
 -- The looks are real: what they make known, and the entries among them, are told from what they read.
 use mathlib.Core.Path.{◌≡◌, refl, ap, ◌∙◌}
 use mathlib.Core.Bool.{cond}
-use mathlib.Core.List.{List, [], ◌∷◌, map, filter_map}
-use mathlib.Core.Option.{Option, none, some, Option-elim}
+use mathlib.Core.List.{List, [], ◌∷◌, map}
+use Rattle.std.specs.List.{filter_map, cons_option}
+use Rattle.std.specs.Prelude.{Option, None, Some}
 use Prim.Native.Nat.{ℕ}
 use lib.Dec.{eqb, ltb}
 use lib.IntN.{ℤ, pos, negsuc}
@@ -22,21 +23,21 @@ module _ (values index others entries : List ℤ) (i j : ℕ) (long : length val
 
   same_known : (look : Look) → read_by values index look ≡ read_by others entries look → known_from values index i j look ≡ known_from others entries i j look
   same_known (Entry b) e =
-      ap (λ (k : ℕ). cond (wholly_inside k i j b) (some (get_or index b (pos 0))) none) long ∙ ap (λ (x : ℤ). cond (wholly_inside (length others) i j b) (some x) none) e
-  same_known (Value k) e = ap some e
+      ap (λ (k : ℕ). cond (wholly_inside k i j b) (Some (get_or index b (pos 0))) None) long ∙ ap (λ (x : ℤ). cond (wholly_inside (length others) i j b) (Some x) None) e
+  same_known (Value k) e = ap Some e
 
   same_entry : (look : Look) → read_by values index look ≡ read_by others entries look → entry_from index look ≡ entry_from entries look
-  same_entry (Entry b) e = ap some e
+  same_entry (Entry b) e = ap Some e
   same_entry (Value k) e = refl
 
   all_same : (f g : Look → Option ℤ) → ((look : Look) → read_by values index look ≡ read_by others entries look → f look ≡ g look) → (ls : List Look)
       → map (read_by values index) ls ≡ map (read_by others entries) ls → filter_map f ls ≡ filter_map g ls
-  unfolding filter_map head_of tail_of
+  unfolding head_of tail_of
   all_same f g s [] e = refl
   all_same f g s (x ∷ xs) e =
       let here : f x ≡ g x = s x (ap (head_of (pos 0)) e) in
       let rest : filter_map f xs ≡ filter_map g xs = all_same f g s xs (ap tail_of e) in
-      ap (λ (o : Option ℤ). Option-elim o (filter_map f xs) (λ b. b ∷ filter_map f xs)) here ∙ ap (λ (ys : List ℤ). Option-elim (g x) ys (λ b. b ∷ ys)) rest
+      ap (λ (o : Option ℤ). cons_option o (filter_map f xs)) here ∙ ap (λ (ys : List ℤ). cons_option (g x) ys) rest
 
   same_figures : (ls : List Look) → map (read_by values index) ls ≡ map (read_by others entries) ls → figures_after values index i j ls ≡ figures_after others entries i j ls
   same_figures ls e =
@@ -47,7 +48,7 @@ module _ (values index others entries : List ℤ) (i j : ℕ) (long : length val
         looks = length ls;
         high = least_of (known x);
         low =
-            cond (ltb (length ls) (length (entry_looks i j))) (some (negsuc 2147483647))
+            cond (ltb (length ls) (length (entry_looks i j))) (Some (negsuc 2147483647))
             (cond (ltb (length ls) (length (looks (long x) i j))) (least_of (read x)) (least_of (known x)));
       }
 

@@ -3,7 +3,9 @@ use mathlib.Core.Path.{◌≡◌, refl, sym, ap, ◌∙◌}
 use mathlib.Core.Bool.{Bool, true, false, not, cond}
 use mathlib.Core.List.{List, [], ◌∷◌, ◌++◌}
 use mathlib.Core.Logic.{inl, inr}
-use mathlib.Core.Option.{Option, none, some, none-ne-some, some-injective}
+use Rattle.std.specs.Prelude.{Option, None, Some}
+use Rattle.std.proofs.lemmas.Option.{none-some}
+use Rattle.rough.proofs.Sequences.{same_some}
 use Prim.Native.Nat.{ℕ, ◌+◌, ◌-◌, ◌<◌, ◌≤◌}
 use native.Mathlib.Omega.{arith}
 use lib.IntN.{ℤ, pos}
@@ -58,38 +60,38 @@ part_under v a b l m s f k h e =
     rw q at (rw (get_d_part a b l (k - a) (omega arith)) at (f (k - a) (omega (arith, n))))
 
 -- THE LEAST is at most each, and one of them
-pub least_under : (xs : List ℤ) (v : ℤ) → least_of xs ≡ some v → Under v xs
-least_under [] v e = absurd (none-ne-some v e)
+pub least_under : (xs : List ℤ) (v : ℤ) → least_of xs ≡ Some v → Under v xs
+least_under [] v e = absurd (none-some v e)
 least_under (x ∷ xs) v e =
     let least = minimum_least (x ∷ xs) (record { 0 = 1 }) (omega arith) (omega arith) in
-    let same : (minimum (x ∷ xs) (record { 0 = 1 })).value ≡ v = some-injective _ _ e in
+    let same : (minimum (x ∷ xs) (record { 0 = 1 })).value ≡ v = same_some _ _ e in
     λ t h.
     let back : t + 1 - 1 ≡ t = omega arith in
     rw (back, same) at (least.least (record { 0 = t + 1 }) (omega arith) (omega arith))
 
-pub least_one : (xs : List ℤ) (v : ℤ) → least_of xs ≡ some v → (t : ℕ) × (t < length xs) × (get_or xs t (pos 0) ≡ v)
-least_one [] v e = absurd (none-ne-some v e)
+pub least_one : (xs : List ℤ) (v : ℤ) → least_of xs ≡ Some v → (t : ℕ) × (t < length xs) × (get_or xs t (pos 0) ≡ v)
+least_one [] v e = absurd (none-some v e)
 least_one (x ∷ xs) v e =
     let least = minimum_least (x ∷ xs) (record { 0 = 1 }) (omega arith) (omega arith) in
-    ((minimum (x ∷ xs) (record { 0 = 1 })).place.0 - 1, omega (arith, least.from, least.to), least.stands ∙ some-injective _ _ e)
+    ((minimum (x ∷ xs) (record { 0 = 1 })).place.0 - 1, omega (arith, least.from, least.to), least.stands ∙ same_some _ _ e)
 
 -- so what is at most each is at most the least
-pub under_least : (xs : List ℤ) (u v : ℤ) → Under u xs → least_of xs ≡ some v → le_z u v ≡ true
+pub under_least : (xs : List ℤ) (u v : ℤ) → Under u xs → least_of xs ≡ Some v → le_z u v ≡ true
 under_least xs u v f e = let o = least_one xs v e in rw o.2 at (f o.0 o.1)
 
 -- with more values the least does not rise, and stays one
-pub lower_falls : (v : ℤ) (o : Option ℤ) → (w : ℤ) × (lower_of (some v) o ≡ some w) × (le_z w v ≡ true)
-lower_falls v none = (v, refl, le_z_refl v)
-lower_falls v (some x) = go (takes_over x v) refl
+pub lower_falls : (v : ℤ) (o : Option ℤ) → (w : ℤ) × (lower_of (Some v) o ≡ Some w) × (le_z w v ≡ true)
+lower_falls v None = (v, refl, le_z_refl v)
+lower_falls v (Some x) = go (takes_over x v) refl
   where
     denied : (b : Bool) → not b ≡ true → b ≡ false
     denied true e = sym e
     denied false e = refl
 
-    go : (t : Bool) → takes_over x v ≡ t → (w : ℤ) × (some (cond t x v) ≡ some w) × (le_z w v ≡ true)
+    go : (t : Bool) → takes_over x v ≡ t → (w : ℤ) × (Some (cond t x v) ≡ Some w) × (le_z w v ≡ true)
     go true e = (x, refl, le_z_total v x (denied (le_z v x) (sym (lt_z_le_z x v) ∙ e)))
     go false e = (v, refl, le_z_refl v)
 
 -- of some values there is a least
-pub least_exists : (xs : List ℤ) → 0 < length xs → (v : ℤ) × (least_of xs ≡ some v)
+pub least_exists : (xs : List ℤ) → 0 < length xs → (v : ℤ) × (least_of xs ≡ Some v)
 least_exists xs h = ((minimum_from xs 0).value, least_some xs h)

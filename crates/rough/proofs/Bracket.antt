@@ -1,9 +1,12 @@
 -- Over an index built from the take the figures stand on both sides of the least value of the range, meet there at the full count, and come no further apart with a bigger budget.
 use mathlib.Core.Path.{◌≡◌, refl, sym, ap, ◌∙◌}
 use mathlib.Core.Bool.{true}
-use mathlib.Core.List.{List, ◌++◌, filter_map, filter_map-append}
+use mathlib.Core.List.{List, ◌++◌}
+use Rattle.std.specs.List.{filter_map}
+use Rattle.std.proofs.lemmas.List.Elements.{filter_map-append}
 use mathlib.Core.Logic.{inl, inr}
-use mathlib.Core.Option.{Option, some, some-injective}
+use Rattle.std.specs.Prelude.{Option, Some}
+use Rattle.rough.proofs.Sequences.{same_some}
 use Prim.Native.Nat.{ℕ, ◌+◌, ◌*◌, ◌-◌, ◌/◌, ◌<◌, ◌≤◌, min}
 use native.Mathlib.Omega.{arith}
 use lib.IntN.{ℤ, pos}
@@ -98,7 +101,7 @@ module _ (values : List ℤ) (i j : ℕ) (l : i ≤ j) (h : j < length values) w
     high_is = ap least_of (all_known values index i j l h fitting B)
 
     -- "nor a shown high below it"
-    pub high_above : (v : ℤ) → high_b ≡ some v → le_z least v ≡ true
+    pub high_above : (v : ℤ) → high_b ≡ Some v → le_z least v ≡ true
     high_above v e =
         under_least (take (B - (inner - first)) inside ++ take (B - (end - first)) (before ++ behind)) least v
         (under_append least (take (B - (inner - first)) inside) (take (B - (end - first)) (before ++ behind)) (under_take least (B - (inner - first)) inside least_under_inside)
@@ -148,7 +151,7 @@ module _ (values : List ℤ) (i j : ℕ) (l : i ≤ j) (h : j < length values) w
       ]
 
   -- "both equal the exact least value once the full count is used"
-  pub high_exact : (B : ℕ) → length (looks (length values) i j) ≤ B → high_b B ≡ some least
+  pub high_exact : (B : ℕ) → length (looks (length values) i j) ≤ B → high_b B ≡ Some least
   high_exact B b =
       let c = ordered in
       let a = along in
@@ -162,8 +165,8 @@ module _ (values : List ℤ) (i j : ℕ) (l : i ≤ j) (h : j < length values) w
       ∙ ap (λ (x : ℕ). from - i + x) (length_part to (j + 1) values a.2 (omega (arith, h)))))) in
       let some-least = least_exists (inside ++ (before ++ behind)) all_some in
       let v : ℤ = some-least.0 in
-      let shown : high_b B ≡ some v = knows ∙ some-least.1 in
-      shown ∙ ap some (le_z_antisym v least (all_under v (least_under (inside ++ (before ++ behind)) v some-least.1)) (high_above B v shown))
+      let shown : high_b B ≡ Some v = knows ∙ some-least.1 in
+      shown ∙ ap Some (le_z_antisym v least (all_under v (least_under (inside ++ (before ++ behind)) v some-least.1)) (high_above B v shown))
     where
       reaches : (B a b c d v : ℕ) → a ≤ b → b ≤ c → c ≤ d → d - a + v ≤ B → {x : ℕ} → x ≡ c - b → x ≤ B - (b - a)
       reaches B a b c d v p q r s {x} e = omega (arith, p, q, r, s, e)
@@ -182,7 +185,7 @@ module _ (values : List ℤ) (i j : ℕ) (l : i ≤ j) (h : j < length values) w
   first_few = omega (arith, l)
 
   -- their least is at most the least value, and is a value
-  entries_below : (v : ℤ) → least_of entries ≡ some v → le_z v least ≡ true
+  entries_below : (v : ℤ) → least_of entries ≡ Some v → le_z v least ≡ true
   entries_below v e =
       let p = true_stands values i j l h in
       let k : ℕ = p.0 in
@@ -196,7 +199,7 @@ module _ (values : List ℤ) (i j : ℕ) (l : i ≤ j) (h : j < length values) w
     bottom-least : le_z bottom least ≡ true
     bottom-least = let p = true_stands values i j l h in rw p.3 at (none_below p.0 (omega (arith, p.2, h)))
 
-    bottom-entries : (v : ℤ) → least_of entries ≡ some v → le_z bottom v ≡ true
+    bottom-entries : (v : ℤ) → least_of entries ≡ Some v → le_z bottom v ≡ true
     bottom-entries v e =
         under_least entries bottom v
         (under_part bottom first end index first_few end_few (λ b p q. let s = entry_stands values b (omega (arith, q, end_few, fitting)) in rw s.4 at (none_below s.0 s.3))) e
@@ -211,7 +214,7 @@ module _ (values : List ℤ) (i j : ℕ) (l : i ≤ j) (h : j < length values) w
     full = length (looks (length values) i j)
 
     -- "low is never above the true one"
-    pub low_below : (B : ℕ) (v : ℤ) → low_b B ≡ some v → le_z v least ≡ true
+    pub low_below : (B : ℕ) (v : ℤ) → low_b B ≡ Some v → le_z v least ≡ true
     low_below B v e = elim (lt_or_ge B few) [
       | inl b ↦ is bottom (low_early values index i j l h fitting B b) ∙ bottom-least
       | inr b ↦ elim (lt_or_ge B full) [
@@ -220,18 +223,18 @@ module _ (values : List ℤ) (i j : ℕ) (l : i ≤ j) (h : j < length values) w
       ]
     ]
       where
-        is : (u : ℤ) → low_b B ≡ some u → le_z v least ≡ le_z u least
-        is u q = ap (λ (x : ℤ). le_z x least) (some-injective v u (sym e ∙ q))
+        is : (u : ℤ) → low_b B ≡ Some u → le_z v least ≡ le_z u least
+        is u q = ap (λ (x : ℤ). le_z x least) (same_some v u (sym e ∙ q))
 
     -- "a bigger budget never lowers low"
-    pub low_rises : (B C : ℕ) (v w : ℤ) → B ≤ C → low_b B ≡ some v → low_b C ≡ some w → le_z v w ≡ true
+    pub low_rises : (B C : ℕ) (v w : ℤ) → B ≤ C → low_b B ≡ Some v → low_b C ≡ Some w → le_z v w ≡ true
     low_rises B C v w b e f = elim (lt_or_ge C full) [
-      | inr c ↦ ap (le_z v) (some-injective w least (sym f ∙ low_full values index i j l h fitting C c ∙ high_exact C c)) ∙ low_below B v e
+      | inr c ↦ ap (le_z v) (same_some w least (sym f ∙ low_full values index i j l h fitting C c ∙ high_exact C c)) ∙ low_below B v e
       | inl c ↦ elim (lt_or_ge C few) [
         | inl d ↦ same (low_early values index i j l h fitting B (omega (arith, b, d)) ∙ sym (low_early values index i j l h fitting C d))
         | inr d ↦ elim (lt_or_ge B few) [
           | inl a ↦
-              ap (λ (x : ℤ). le_z x w) (some-injective v bottom (sym e ∙ low_early values index i j l h fitting B a))
+              ap (λ (x : ℤ). le_z x w) (same_some v bottom (sym e ∙ low_early values index i j l h fitting B a))
               ∙ bottom-entries w (sym (low_between values index i j l h fitting C d c) ∙ f)
           | inr a ↦ same (low_between values index i j l h fitting B a (omega (arith, b, c)) ∙ sym (low_between values index i j l h fitting C d c))
         ]
@@ -239,11 +242,11 @@ module _ (values : List ℤ) (i j : ℕ) (l : i ≤ j) (h : j < length values) w
     ]
       where
         same : low_b B ≡ low_b C → le_z v w ≡ true
-        same q = ap (λ (x : ℤ). le_z x w) (some-injective v w (sym e ∙ q ∙ f)) ∙ le_z_refl w
+        same q = ap (λ (x : ℤ). le_z x w) (same_some v w (sym e ∙ q ∙ f)) ∙ le_z_refl w
 
 -- "raises a shown high or takes one away": the looks of a bigger budget are those of the smaller one, and more
-pub high_falls : (values index : List ℤ) (i j B C : ℕ) (v : ℤ) → B ≤ C → high_after values index i j (looks_used (length values) i j B) ≡ some v
-    → (w : ℤ) × (high_after values index i j (looks_used (length values) i j C) ≡ some w) × (le_z w v ≡ true)
+pub high_falls : (values index : List ℤ) (i j B C : ℕ) (v : ℤ) → B ≤ C → high_after values index i j (looks_used (length values) i j B) ≡ Some v
+    → (w : ℤ) × (high_after values index i j (looks_used (length values) i j C) ≡ Some w) × (le_z w v ≡ true)
 high_falls values index i j B C v b e =
     let all : List Look = looks (length values) i j in
     let known = filter_map (known_from values index i j) in

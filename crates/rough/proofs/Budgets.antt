@@ -4,11 +4,12 @@ use mathlib.Core.List.{List, ◌++◌}
 use Prim.Native.Nat.{ℕ, ◌+◌, ◌-◌, ◌≤◌}
 use native.Mathlib.Omega.{arith}
 use lib.IntN.{ℤ}
-use lib.ListN.{length, take, drop, length-take, length-drop}
+use lib.ListN.{length, take, drop, length-append, length-take, length-drop}
 use lib.Seq.{take-add, drop-drop}
-use Rattle.blocks.specs.declared.Known.{Known}
-use Rattle.blocks.specs.Takes.{least_of, figure}
+use Rattle.std.specs.Prelude.{Option}
+use Rattle.blocks.specs.Takes.{least_of}
 use Rattle.rough.specs.declared.Seen.{Seen}
+use Rattle.rough.specs.declared.Entries.{Entries}
 use Rattle.rough.specs.Private.{lower_of, Sees, SeesEntries, SeesValues}
 use Rattle.rough.proofs.Sequences.{take_append}
 use Rattle.rough.proofs.Leasts.{least_append}
@@ -29,51 +30,56 @@ side_by_side a b c l h s =
     ∙ take-add (b - a) (c - b) (drop a l)
     ∙ ap (λ (xs : List ℤ). part a b l ++ take (c - b) xs) (drop-drop (b - a) a l ∙ ap (λ (k : ℕ). drop k l) q)
 
--- what two looks leave of a budget, side by side
-left_over : (B a b c : ℕ) → a ≤ b → b ≤ c → B - (b - a) - (c - b) ≡ B - (c - a)
-left_over B a b c l m = omega arith
-
 -- looks at one list and then at another
-two_seen : (x y : Known) (u : Known) (B : ℕ) (xs ys : List ℤ) → figure x ≡ least_of (take B xs) → figure y ≡ least_of (take (B - length xs) ys)
-    → figure u ≡ lower_of (figure x) (figure y) → figure u ≡ least_of (take B (xs ++ ys))
+two_seen : (x y u : Option ℤ) (B : ℕ) (xs ys : List ℤ) → x ≡ least_of (take B xs) → y ≡ least_of (take (B - length xs) ys) → u ≡ lower_of x y → u ≡ least_of (take B (xs ++ ys))
 two_seen x y u B xs ys p q e =
-    e ∙ ap (λ (o : _). lower_of o (figure y)) p ∙ ap (lower_of (least_of (take B xs))) q
+    e ∙ ap (λ (o : _). lower_of o y) p ∙ ap (lower_of (least_of (take B xs))) q
     ∙ sym (least_append (take B xs) (take (B - length xs) ys)) ∙ sym (ap least_of (take_append B xs ys))
 
--- at entries in three parts
-pub entries_seen : (index : List ℤ) (first inner outer end B : ℕ) (s t r : Seen) (u v : Known)
-    → first ≤ inner → inner ≤ outer → outer ≤ end → end ≤ length index
-    → Sees index first inner B s → Sees index inner outer s.rest t → Sees index outer end t.rest r
-    → figure u ≡ lower_of (figure s.least) (figure t.least) → figure v ≡ lower_of (figure u) (figure r.least)
-    → SeesEntries index first inner outer end B (record { rest = r.rest; all = v; whole = t.least })
-entries_seen index first inner outer end B s t r u v f g h k a b c p q =
-    let left : List ℤ = part first inner index in
-    let whole : List ℤ = part inner outer index in
-    let right : List ℤ = part outer end index in
-    let long-left = length_part first inner index f (omega arith) in
-    let long-both = length_part first outer index (omega arith) (omega arith) in
-    let rest-left : s.rest ≡ B - length left = a.rest ∙ ap (λ (x : ℕ). B - x) (sym long-left) in
-    let over : t.rest ≡ B - (outer - first) = b.rest ∙ ap (λ (x : ℕ). x - (outer - inner)) a.rest ∙ left_over B first inner outer f g in
-    let rest_both : t.rest ≡ B - length (part first outer index) = over ∙ ap (λ (x : ℕ). B - x) (sym long-both) in
-    let both : figure u ≡ least_of (take B (part first outer index)) =
-    two_seen s.least t.least u B left whole a.least (b.least ∙ ap (λ (x : ℕ). least_of (take x whole)) rest-left) p
-    ∙ ap (λ (xs : List ℤ). least_of (take B xs)) (sym (side_by_side first inner outer index f g)) in
+rest_after : (B m n r s : ℕ) → r ≡ B - m → s ≡ r - n → s ≡ B - (m + n)
+rest_after B m n r s p q = omega (arith, p, q)
+
+-- at values in two parts
+pub values_seen : (before behind : List ℤ) (B : ℕ) (s t : Seen) (u : Option ℤ) → Sees before B s → Sees behind s.rest t → u ≡ lower_of s.least t.least
+    → SeesValues before behind B (record { rest = t.rest; least = u })
+values_seen before behind B s t u p q h = record {
+  rest = rest_after B (length before) (length behind) s.rest t.rest p.rest q.rest ∙ ap (λ (k : ℕ). B - k) (sym (length-append before behind));
+  least = two_seen s.least t.least u B before behind p.least (q.least ∙ ap (λ (k : ℕ). least_of (take k behind)) p.rest) h;
+}
+
+-- at entries in three
+pub entries_seen : (before inside behind : List ℤ) (B : ℕ) (s t r : Seen) (u v : Option ℤ) → Sees before B s → Sees inside s.rest t → Sees behind t.rest r
+    → u ≡ lower_of s.least t.least → v ≡ lower_of u r.least → SeesEntries before inside behind B (record { rest = r.rest; all = v; whole = t.least })
+entries_seen before inside behind B s t r u v a b c p q =
+    let both = values_seen before inside B s t u a b p in
+    let all = values_seen (before ++ inside) behind B (record { rest = t.rest; least = u }) r v (record { rest = both.rest; least = both.least }) c q in
+    record { rest = all.rest; all = all.least; whole = b.least ∙ ap (λ (k : ℕ). least_of (take k inside)) a.rest }
+
+-- THE PARTS of an index and of a take that are looked at, as they stand there
+pub record EntriesSeen (index : List ℤ) (first inner outer end B : ℕ) (r : Entries) : Type 0 where
+  pub rest : r.rest ≡ B - (end - first)
+  pub all : r.all ≡ least_of (take B (part first end index))
+  pub whole : r.whole ≡ least_of (take (B - (inner - first)) (part inner outer index))
+
+pub entries_in : (index : List ℤ) (first inner outer end B : ℕ) (r : Entries) → first ≤ inner → inner ≤ outer → outer ≤ end → end ≤ length index
+    → SeesEntries (part first inner index) (part inner outer index) (part outer end index) B r → EntriesSeen index first inner outer end B r
+entries_in index first inner outer end B r f g h k s =
+    let both : part first inner index ++ part inner outer index ≡ part first outer index = sym (side_by_side first inner outer index f g) in
+    let one : part first inner index ++ part inner outer index ++ part outer end index ≡ part first end index =
+    ap (λ (xs : List ℤ). xs ++ part outer end index) both ∙ sym (side_by_side first outer end index (omega arith) h) in
     record {
-      rest = c.rest ∙ ap (λ (x : ℕ). x - (end - outer)) over ∙ left_over B first outer end (omega arith) h;
-      all =
-          two_seen u r.least v B (part first outer index) right both (c.least ∙ ap (λ (x : ℕ). least_of (take x right)) rest_both) q
-          ∙ ap (λ (xs : List ℤ). least_of (take B xs)) (sym (side_by_side first outer end index (omega arith) h));
-      whole = b.least ∙ ap (λ (x : ℕ). least_of (take x whole)) a.rest;
+      rest = s.rest ∙ ap (λ (xs : List ℤ). B - length xs) one ∙ ap (λ (n : ℕ). B - n) (length_part first end index (omega arith) k);
+      all = s.all ∙ ap (λ (xs : List ℤ). least_of (take B xs)) one;
+      whole = s.whole ∙ ap (λ (n : ℕ). least_of (take (B - n) (part inner outer index))) (length_part first inner index f (omega arith));
     }
 
--- at values in two
-pub values_seen : (values : List ℤ) (i a z e B : ℕ) (s t : Seen) (u : Known) → i ≤ a → a ≤ length values
-    → Sees values i a B s → Sees values z e s.rest t → figure u ≡ lower_of (figure s.least) (figure t.least)
-    → SeesValues values i a z e B (record { rest = t.rest; least = u })
-values_seen values i a z e B s t u f g p q h =
-    let long = length_part i a values f g in
-    let rest : s.rest ≡ B - length (part i a values) = p.rest ∙ ap (λ (x : ℕ). B - x) (sym long) in
-    record {
-      rest = omega (arith, p.rest, q.rest);
-      least = two_seen s.least t.least u B (part i a values) (part z e values) p.least (q.least ∙ ap (λ (x : ℕ). least_of (take x (part z e values))) rest) h;
-    }
+pub record ValuesSeen (values : List ℤ) (i a z e B : ℕ) (r : Seen) : Type 0 where
+  pub rest : r.rest ≡ B - (a - i + (e - z))
+  pub least : r.least ≡ least_of (take B (part i a values ++ part z e values))
+
+pub values_in : (values : List ℤ) (i a z e B : ℕ) (r : Seen) → i ≤ a → a ≤ z → z ≤ e → e ≤ length values → SeesValues (part i a values) (part z e values) B r → ValuesSeen values i a z e B r
+values_in values i a z e B r f g h k s =
+    let long : length (part i a values ++ part z e values) ≡ a - i + (e - z) =
+    length-append (part i a values) (part z e values) ∙ ap (λ (n : ℕ). n + length (part z e values)) (length_part i a values f (omega arith))
+    ∙ ap (λ (n : ℕ). a - i + n) (length_part z e values h k) in
+    record { rest = s.rest ∙ ap (λ (n : ℕ). B - n) long; least = s.least }

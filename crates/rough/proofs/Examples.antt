@@ -1,7 +1,6 @@
 -- The worked examples: the definitions compute to them, and so every call of the function gives them.
 use mathlib.Core.Path.{◌≡◌, refl, ap, ◌∙◌}
-use mathlib.Core.List.{map, filter_map}
-use mathlib.Core.Option.{Option-elim}
+use mathlib.Core.List.{map}
 use Rattle.history.specs.Minima.{lowest}
 use Rattle.blocks.specs.Takes.{block_minima_from}
 use Rattle.blocks.specs.Examples.{Each}
@@ -12,15 +11,15 @@ use Rattle.rough.proofs.Tied.{Read, reads}
 
 -- THE DEFINITIONS WORK THEM OUT
 pub readings_worked : map roughed readings ≡ readings
-unfolding lowest block_minima_from up_from filter_map Option-elim
+unfolding lowest block_minima_from up_from
 readings_worked = refl
 
 pub orders_worked : map ordered orders ≡ orders
-unfolding up_from filter_map Option-elim
+unfolding up_from
 orders_worked = refl
 
 pub full_count_worked : full_count ≡ 80
-unfolding up_from filter_map Option-elim
+unfolding up_from
 full_count_worked = refl
 
 -- THE EXAMPLES, by every call of the function

@@ -2,9 +2,11 @@
 -- before the blocks wholly inside, those in them, and those behind.
 use mathlib.Core.Path.{◌≡◌, refl, sym, ap, ◌∙◌}
 use mathlib.Core.Bool.{Bool, true, false, ◌&&◌}
-use mathlib.Core.List.{List, ◌++◌, map, filter_map, filter_map-append}
+use mathlib.Core.List.{List, ◌++◌, map}
+use Rattle.std.specs.List.{filter_map}
+use Rattle.std.proofs.lemmas.List.Elements.{filter_map-append}
 use mathlib.Core.Logic.{◌⊎◌, inl, inr}
-use mathlib.Core.Option.{none, some}
+use Rattle.std.specs.Prelude.{None, Some}
 use Prim.Native.Nat.{ℕ, ◌+◌, ◌*◌, ◌-◌, ◌/◌, ◌<◌, ◌≤◌, min, max}
 use native.Mathlib.Decide.{ℕ_discrete}
 use native.Mathlib.Omega.{arith}
@@ -96,13 +98,13 @@ module _ (n i j : ℕ) (l : i ≤ j) (h : j < n) where
   pub edges : (i ≤ left_end) × (left_end ≤ right_start) × (right_start ≤ j + 1)
   edges = (omega arith, omega (arith, cuts.1), omega arith)
 
-  left_value : (k : ℕ) → k < left_end → edge_look n i j k ≡ some (Value k)
+  left_value : (k : ℕ) → k < left_end → edge_look n i j k ≡ Some (Value k)
   left_value k m = simp (left_block (k / 64) (omega arith))
 
-  whole_value : (k : ℕ) → left_end ≤ k → k < right_start → edge_look n i j k ≡ none
+  whole_value : (k : ℕ) → left_end ≤ k → k < right_start → edge_look n i j k ≡ None
   whole_value k m s = simp (whole_block (k / 64) (omega arith) (omega arith))
 
-  right_value : (k : ℕ) → right_start ≤ k → k < j + 1 → edge_look n i j k ≡ some (Value k)
+  right_value : (k : ℕ) → right_start ≤ k → k < j + 1 → edge_look n i j k ≡ Some (Value k)
   right_value k m s = simp (right_block (k / 64) (omega arith) (omega arith))
 
   -- THE VALUES, left edge before right edge

@@ -1,8 +1,8 @@
 -- POINT 6, from the contract: an accepted reading is the definition's figures after the looks that are used. So each clause is a law of these: of their stages, of what they make known, of both sides of the least
 -- value, and of what they read.
 use mathlib.Core.Path.{◌≡◌, refl, sym, ap, ◌∙◌}
-use mathlib.Core.List.{List, [], filter_map}
-use mathlib.Core.Option.{Option, none, some}
+use mathlib.Core.List.{List}
+use Rattle.std.specs.Prelude.{None, Some}
 use Prim.Native.Nat.{ℕ, ◌+◌, ◌/◌, ◌<◌, ◌≤◌}
 use native.Mathlib.Omega.{arith}
 use lib.IntN.{ℤ}
@@ -14,8 +14,10 @@ use Rattle.blocks.specs.Promises.{Fitting, Outside}
 use Rattle.blocks.proofs.Refusals.{in_range}
 use Rattle.blocks.proofs.Indexes.{length_index}
 use Rattle.blocks.proofs.Point.{outside_range}
-use Rattle.rough.specs.declared.Reading.{Reading}
-use Rattle.rough.specs.Looks.{Look, entry_looks, looks, looks_used, known_from, high_after, low_after, ToldReading, figures_after, refused_with, rough_reading, told}
+use Rattle.std.specs.Prelude.{Result, Ok, Err}
+use Rattle.history.specs.declared.Refusal.{Refusal}
+use Rattle.rough.specs.declared.Figures.{Figures}
+use Rattle.rough.specs.Looks.{entry_looks, looks, looks_used, high_after, low_after, ToldReading, figures_after, refused_with, rough_reading, told}
 use Rattle.rough.specs.Promises.{ReadSays, bottom, EveryReading, Point6}
 use Rattle.rough.proofs.Shows.{met, length_entries}
 use Rattle.rough.proofs.Budgets.{length_part}
@@ -38,18 +40,14 @@ module _ (values index : List ℤ) (i j B : ℕ) where
   not_refused n l h = simp (eq-eqb (length index) (block_count (length values)) n, in_range (length values) i j l h)
 
 -- EVERY READING
-module _ (values index : List ℤ) (i j B : ℕ) (r : Reading) (d : told r ≡ rough_reading values index i j B) where
+module _ (values index : List ℤ) (i j B : ℕ) (r : Result Figures Refusal) (d : told r ≡ rough_reading values index i j B) where
   shown_figures : Fitting values index → i ≤ j → j < length values → told r ≡ figures_after values index i j (looks_used (length values) i j B)
   shown_figures n l h = d ∙ not_refused values index i j B n l h
 
   -- a reading that is accepted has a low figure
-  some-low : (s : Reading) → (told s).number ≡ 0 → (v : ℤ) × ((told s).low ≡ some v)
-  some-low (Reading.Figures f) e = (f.low, refl)
-  some-low (Reading.Refused why) e = absurd (some_number why e)
-
-  nothing_known : (f : Look → Option ℤ) → filter_map f [] ≡ []
-  unfolding filter_map
-  nothing_known f = refl
+  some-low : (s : Result Figures Refusal) → (told s).number ≡ 0 → (v : ℤ) × ((told s).low ≡ Some v)
+  some-low (Ok f) e = (f.low, refl)
+  some-low (Err why) e = absurd (some_number why e)
 
   entries_some : i ≤ j → 0 < length (entry_looks i j)
   entries_some l = omega (arith, length_entries i j, l)
@@ -62,15 +60,15 @@ module _ (values index : List ℤ) (i j B : ℕ) (r : Reading) (d : told r ≡ r
     count = λ n l h. ap (λ (t : ToldReading). t.looks) (shown_figures n l h) ∙ length-take B (looks (length values) i j);
     low = λ n l h. some-low r (ap (λ (t : ToldReading). t.number) (shown_figures n l h));
     nothing = λ n l h e.
-        let none-used : figures_after values index i j (looks_used (length values) i j 0) ≡ record { number = 0; looks = 0; high = none; low = some bottom } = λ x. record {
+        let none-used : figures_after values index i j (looks_used (length values) i j 0) ≡ record { number = 0; looks = 0; high = None; low = Some bottom } = λ x. record {
           number = 0;
           looks = 0;
-          high = least_of (nothing_known (known_from values index i j) x);
+          high = None;
           low = low_early values index i j l h n 0 (entries_some l) x;
         } in
         shown_figures n l h ∙ ap (λ (b : ℕ). figures_after values index i j (looks_used (length values) i j b)) e ∙ none-used;
     between = λ n l h b c v e.
-        let least : least_of (met values index i j l h n) ≡ some v =
+        let least : least_of (met values index i j l h n) ≡ Some v =
         sym (ap (λ (t : ToldReading). t.low) (shown_figures n l h) ∙ low_between values index i j l h n B (omega (arith, length_entries i j, b)) c) ∙ e in
         let o = least_one (met values index i j l h n) v least in
         let first : i / 64 ≤ j / 64 + 1 = omega (arith, l) in
@@ -82,14 +80,14 @@ module _ (values index : List ℤ) (i j B : ℕ) (r : Reading) (d : told r ≡ r
     full = λ n l h b.
         ap (λ (t : ToldReading). t.low) (shown_figures n l h) ∙ low_full values index i j l h n B b ∙ sym (ap (λ (t : ToldReading). t.high) (shown_figures n l h));
     high = λ n l h v e.
-        let is : high_after values index i j (looks_used (length values) i j B) ≡ some v = sym (ap (λ (t : ToldReading). t.high) (shown_figures n l h)) ∙ e in
+        let is : high_after values index i j (looks_used (length values) i j B) ≡ Some v = sym (ap (λ (t : ToldReading). t.high) (shown_figures n l h)) ∙ e in
         (high_one values index i j l h B v is, high_under values index i j l h B v is);
     unknown = λ n l h e. high_none values index i j l h B (sym (ap (λ (t : ToldReading). t.high) (shown_figures n l h)) ∙ e);
     early = λ n l h b. ap (λ (t : ToldReading). t.low) (shown_figures n l h) ∙ low_early values index i j l h n B (omega (arith, length_entries i j, b));
   }
 
 -- of a function of which at least the contract is known
-pub point_6 : (reads : ReadSays) → ((values index : List ℤ) (i j B : ℕ) (r : Reading) → reads values index i j B r → told r ≡ rough_reading values index i j B) → Point6 reads
+pub point_6 : (reads : ReadSays) → ((values index : List ℤ) (i j B : ℕ) (r : Result Figures Refusal) → reads values index i j B r → told r ≡ rough_reading values index i j B) → Point6 reads
 point_6 reads f = record {
   looked = every_look;
   reading = λ values index i j B r d. every_reading values index i j B r (f values index i j B r d);
@@ -104,11 +102,11 @@ point_6 reads f = record {
         above = λ v s. high_above values i j l h B v (sym high ∙ s);
       };
   bigger = λ values index i j B C r s d e n l h b.
-      let shown : (D : ℕ) (t : Reading) → reads values index i j D t → told t ≡ figures_after values index i j (looks_used (length values) i j D) = λ D t g.
+      let shown : (D : ℕ) (t : Result Figures Refusal) → reads values index i j D t → told t ≡ figures_after values index i j (looks_used (length values) i j D) = λ D t g.
       f values index i j D t g ∙ not_refused values index i j D n l h in
       record {
         low = λ q m v w x y.
-            let over : (D : ℕ) (t : Reading) → reads values index i j D t → (told t).low ≡ low_after values (block_minima values) i j (looks_used (length values) i j D) = λ D t g.
+            let over : (D : ℕ) (t : Result Figures Refusal) → reads values index i j D t → (told t).low ≡ low_after values (block_minima values) i j (looks_used (length values) i j D) = λ D t g.
             ap (λ (u : ToldReading). u.low) (shown D t g) ∙ ap (λ (xs : List ℤ). low_after values xs i j (looks_used (length values) i j D)) q in
             low_rises values i j l h m B C v w b (sym (over B r d) ∙ x) (sym (over C s e) ∙ y);
         high = λ v x.

@@ -1,7 +1,9 @@
 -- Laws of lists: numbers in a row, the first of two lists together, and what looks at a row of elements show.
 use mathlib.Core.Path.{◌≡◌, refl, sym, ap, ◌∙◌}
-use mathlib.Core.List.{List, [], ◌∷◌, ◌++◌, map, filter_map, filter_map-cons-none, filter_map-cons-some}
-use mathlib.Core.Option.{Option, none, some}
+use mathlib.Core.List.{List, [], ◌∷◌, ◌++◌, map}
+use Rattle.std.specs.List.{filter_map, cons_option}
+use Rattle.std.specs.Prelude.{Option, None, Some}
+use Rattle.std.specs.Option.{unwrap_or}
 use Prim.Native.Nat.{ℕ, zero, suc, ◌+◌, ◌-◌, ◌<◌, ◌≤◌}
 use native.Mathlib.Omega.{arith}
 use lib.ListN.{length, get_or, take, drop}
@@ -47,41 +49,48 @@ take_append (suc k) (x ∷ xs) ys =
     let q : k - length xs ≡ suc k - suc (length xs) = omega arith in
     ap (λ (zs : List _). x ∷ zs) (take_append k xs ys ∙ ap (λ (z : ℕ). take k xs ++ take z ys) q)
 
+pub same_some : {A : Type 0} (a b : A) → Some a ≡ Some b → a ≡ b
+same_some a b e = ap (λ (o : Option _). unwrap_or o a) e
+
+-- what is kept of the first of a list stands before what is kept of the others
+kept_or_not : {A B : Type 0} (f : A → Option B) (x : A) (xs : List A) (o : Option B) → f x ≡ o → filter_map f (x ∷ xs) ≡ cons_option o (filter_map f xs)
+kept_or_not f x xs o e = ap (λ (r : Option _). cons_option r (filter_map f xs)) e
+
 -- a row of numbers of which none is kept, and of which each is
 module _ {B : Type 0} (f : ℕ → Option B) where
-  pub none_kept : (a n : ℕ) → ((b : ℕ) → a ≤ b → b < a + n → f b ≡ none) → filter_map f (up_from a n) ≡ []
-  unfolding up_from filter_map
+  pub none_kept : (a n : ℕ) → ((b : ℕ) → a ≤ b → b < a + n → f b ≡ None) → filter_map f (up_from a n) ≡ []
+  unfolding up_from
   none_kept a zero h = refl
   none_kept a (suc n) h =
-      filter_map-cons-none f a (up_from (a + 1) n) (h a (omega arith) (omega arith)) ∙ none_kept (a + 1) n (λ b l m. h b (omega (arith, l)) (omega (arith, m)))
+      kept_or_not f a (up_from (a + 1) n) None (h a (omega arith) (omega arith)) ∙ none_kept (a + 1) n (λ b l m. h b (omega (arith, l)) (omega (arith, m)))
 
-  pub all_kept : (g : ℕ → B) (a n : ℕ) → ((b : ℕ) → a ≤ b → b < a + n → f b ≡ some (g b)) → filter_map f (up_from a n) ≡ map g (up_from a n)
-  unfolding up_from filter_map
+  pub all_kept : (g : ℕ → B) (a n : ℕ) → ((b : ℕ) → a ≤ b → b < a + n → f b ≡ Some (g b)) → filter_map f (up_from a n) ≡ map g (up_from a n)
+  unfolding up_from
   all_kept g a zero h = refl
   all_kept g a (suc n) h =
-      filter_map-cons-some f a (up_from (a + 1) n) (h a (omega arith) (omega arith))
+      kept_or_not f a (up_from (a + 1) n) (Some (g a)) (h a (omega arith) (omega arith))
       ∙ ap (λ (zs : List B). g a ∷ zs) (all_kept g (a + 1) n (λ b l m. h b (omega (arith, l)) (omega (arith, m))))
 
 module _ {A B : Type 0} (f : A → Option B) (g : ℕ → A) where
   -- looks at n elements of which none shows anything, as far as the budget k goes
-  pub none_shown : (k a n : ℕ) → ((b : ℕ) → a ≤ b → b < a + n → f (g b) ≡ none) → filter_map f (take k (map g (up_from a n))) ≡ []
-  unfolding up_from filter_map
+  pub none_shown : (k a n : ℕ) → ((b : ℕ) → a ≤ b → b < a + n → f (g b) ≡ None) → filter_map f (take k (map g (up_from a n))) ≡ []
+  unfolding up_from
   none_shown zero a zero h = refl
   none_shown zero a (suc n) h = refl
   none_shown (suc k) a zero h = refl
   none_shown (suc k) a (suc n) h =
-      filter_map-cons-none f (g a) (take k (map g (up_from (a + 1) n))) (h a (omega arith) (omega arith))
+      kept_or_not f (g a) (take k (map g (up_from (a + 1) n))) None (h a (omega arith) (omega arith))
       ∙ none_shown k (a + 1) n (λ b l m. h b (omega (arith, l)) (omega (arith, m)))
 
   -- and of which each shows the element of a list that stands there
-  pub all_shown : (l : List B) (d : B) (k a n : ℕ) → a + n ≤ length l → ((b : ℕ) → a ≤ b → b < a + n → f (g b) ≡ some (get_or l b d))
+  pub all_shown : (l : List B) (d : B) (k a n : ℕ) → a + n ≤ length l → ((b : ℕ) → a ≤ b → b < a + n → f (g b) ≡ Some (get_or l b d))
       → filter_map f (take k (map g (up_from a n))) ≡ take k (take n (drop a l))
-  unfolding up_from filter_map
+  unfolding up_from
   all_shown l d zero a zero s h = refl
   all_shown l d zero a (suc n) s h = refl
   all_shown l d (suc k) a zero s h = refl
   all_shown l d (suc k) a (suc n) s h =
       let q : suc a ≡ a + 1 = omega arith in
-      filter_map-cons-some f (g a) (take k (map g (up_from (a + 1) n))) (h a (omega arith) (omega arith))
+      kept_or_not f (g a) (take k (map g (up_from (a + 1) n))) (Some (get_or l a d)) (h a (omega arith) (omega arith))
       ∙ ap (λ (zs : List B). get_or l a d ∷ zs) (all_shown l d k (a + 1) n (omega arith) (λ b m e. h b (omega (arith, m)) (omega (arith, e))))
       ∙ sym (ap (λ (zs : List B). take (suc k) (take (suc n) zs)) (drop-cons l a d (omega arith) ∙ ap (λ (x : ℕ). get_or l a d ∷ drop x l) q))

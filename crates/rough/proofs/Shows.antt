@@ -1,7 +1,9 @@
 -- What the looks that are used show: of the entries of blocks wholly inside and of the values at both edges as many as the budget allows, and of all entries as many.
 use mathlib.Core.Path.{◌≡◌, refl, sym, ap, ◌∙◌}
-use mathlib.Core.List.{List, [], ◌++◌, map, filter_map, append-nil, filter_map-append, map-append}
-use mathlib.Core.Option.{Option}
+use mathlib.Core.List.{List, [], ◌++◌, map, append-nil, map-append}
+use Rattle.std.specs.List.{filter_map}
+use Rattle.std.proofs.lemmas.List.Elements.{filter_map-append}
+use Rattle.std.specs.Prelude.{Option}
 use Prim.Native.Nat.{ℕ, ◌+◌, ◌-◌, ◌/◌, ◌<◌, ◌≤◌}
 use native.Mathlib.Omega.{arith}
 use lib.IntN.{ℤ, pos}

@@ -1,7 +1,8 @@
 -- The stages of the low figure: before all entries are read, before the full count, and at it.
 use mathlib.Core.Path.{◌≡◌, ap, ◌∙◌}
-use mathlib.Core.List.{List, filter_map}
-use mathlib.Core.Option.{Option, some}
+use mathlib.Core.List.{List}
+use Rattle.std.specs.List.{filter_map}
+use Rattle.std.specs.Prelude.{Option, Some}
 use Prim.Native.Nat.{ℕ, ◌+◌, ◌-◌, ◌/◌, ◌<◌, ◌≤◌, min}
 use native.Mathlib.Omega.{arith}
 use lib.IntN.{ℤ}
@@ -40,7 +41,7 @@ module _ (values index : List ℤ) (i j : ℕ) (l : i ≤ j) (h : j < length val
     used_few = length-take B all
 
     -- THE STAGES of the low figure
-    pub low_early : B < length (entry_looks i j) → low ≡ some bottom
+    pub low_early : B < length (entry_looks i j) → low ≡ Some bottom
     low_early b = simp (lt-ltb (length used) (length (entry_looks i j)) (omega (arith, used_few, b)))
 
     pub low_between : length (entry_looks i j) ≤ B → B < length all → low ≡ least_of (met values index i j l h m)

@@ -1,9 +1,11 @@
 -- Worked examples of rough readings, and of the looks in their order. That the definitions work them out so are the theorems `readings_worked` and `orders_worked` of proofs/Examples; that every call of
 -- the function gives them, `readings_given`.
 use Rattle.std.specs.Prelude.{◌≡◌, List, [], ◌∷◌, ◌++◌, map, ℕ, ℤ, pos, negsuc, length, replicate}
-use Rattle.std.proofs.Math.Option.{Option, none, some}
+use Rattle.std.specs.Prelude.{Option, None, Some}
 use Rattle.blocks.specs.Takes.{block_minima}
-use Rattle.rough.specs.declared.Reading.{Reading}
+use Rattle.std.specs.Prelude.{Result}
+use Rattle.history.specs.declared.Refusal.{Refusal}
+use Rattle.rough.specs.declared.Figures.{Figures}
 use Rattle.rough.specs.Looks.{Look, Entry, Value, up_from, looks, ToldReading, refused_with, rough_reading, told}
 use Rattle.rough.specs.Promises.{ReadSays, bottom}
 
@@ -34,7 +36,7 @@ abbrev rough : List ℤ → (i j budget : ℕ) → ToldReading → Rough
 rough values i j budget t = over values (block_minima values) i j budget t
 
 abbrev figures : ℕ → Option ℤ → ℤ → ToldReading
-figures used high low = record { number = 0; looks = used; high = high; low = some low }
+figures used high low = record { number = 0; looks = used; high = high; low = Some low }
 
 -- the take of 1,000 to 1,199, of length 200: blocks that begin with 1,000, 1,064, 1,128 and 1,192, the last of eight values
 abbrev rising : List ℤ
@@ -50,47 +52,47 @@ two = replicate 64 (pos 5) ++ replicate 64 (negsuc 8)
 abbrev pub readings : List Rough
 readings =
     -- the range from 10 to 150 meets three blocks, of which the middle one is wholly inside; its full count is 3 + 54 + 23
-    rough rising 10 150 0 (figures 0 none bottom)
-    ∷ rough rising 10 150 1 (figures 1 none bottom)
-    ∷ rough rising 10 150 2 (figures 2 (some (pos 1064)) bottom)
-    ∷ rough rising 10 150 3 (figures 3 (some (pos 1064)) (pos 1000))
-    ∷ rough rising 10 150 4 (figures 4 (some (pos 1010)) (pos 1000))
-    ∷ rough rising 10 150 79 (figures 79 (some (pos 1010)) (pos 1000))
-    ∷ rough rising 10 150 80 (figures 80 (some (pos 1010)) (pos 1010))
-    ∷ rough rising 10 150 81 (figures 80 (some (pos 1010)) (pos 1010))
-    ∷ rough rising 10 150 18446744073709551615 (figures 80 (some (pos 1010)) (pos 1010))
+    rough rising 10 150 0 (figures 0 None bottom)
+    ∷ rough rising 10 150 1 (figures 1 None bottom)
+    ∷ rough rising 10 150 2 (figures 2 (Some (pos 1064)) bottom)
+    ∷ rough rising 10 150 3 (figures 3 (Some (pos 1064)) (pos 1000))
+    ∷ rough rising 10 150 4 (figures 4 (Some (pos 1010)) (pos 1000))
+    ∷ rough rising 10 150 79 (figures 79 (Some (pos 1010)) (pos 1000))
+    ∷ rough rising 10 150 80 (figures 80 (Some (pos 1010)) (pos 1010))
+    ∷ rough rising 10 150 81 (figures 80 (Some (pos 1010)) (pos 1010))
+    ∷ rough rising 10 150 18446744073709551615 (figures 80 (Some (pos 1010)) (pos 1010))
     -- left edge before right edge, and the entry of a block that is only partly inside is no high figure
-    ∷ rough two 63 64 2 (figures 2 none (negsuc 8))
-    ∷ rough two 63 64 3 (figures 3 (some (pos 5)) (negsuc 8))
-    ∷ rough two 63 64 4 (figures 4 (some (negsuc 8)) (negsuc 8))
+    ∷ rough two 63 64 2 (figures 2 None (negsuc 8))
+    ∷ rough two 63 64 3 (figures 3 (Some (pos 5)) (negsuc 8))
+    ∷ rough two 63 64 4 (figures 4 (Some (negsuc 8)) (negsuc 8))
     -- a range inside one block: its entry, and its values, each once
-    ∷ rough rising 70 100 1 (figures 1 none (pos 1064))
-    ∷ rough rising 70 100 2 (figures 2 (some (pos 1070)) (pos 1064))
-    ∷ rough rising 70 100 31 (figures 31 (some (pos 1070)) (pos 1064))
-    ∷ rough rising 70 100 32 (figures 32 (some (pos 1070)) (pos 1070))
+    ∷ rough rising 70 100 1 (figures 1 None (pos 1064))
+    ∷ rough rising 70 100 2 (figures 2 (Some (pos 1070)) (pos 1064))
+    ∷ rough rising 70 100 31 (figures 31 (Some (pos 1070)) (pos 1064))
+    ∷ rough rising 70 100 32 (figures 32 (Some (pos 1070)) (pos 1070))
     -- where no block is only partly inside, all entries read is the full count
-    ∷ rough rising 64 191 1 (figures 1 (some (pos 1064)) bottom)
-    ∷ rough rising 64 191 2 (figures 2 (some (pos 1064)) (pos 1064))
-    ∷ rough rising 0 199 4 (figures 4 (some (pos 1000)) (pos 1000))
+    ∷ rough rising 64 191 1 (figures 1 (Some (pos 1064)) bottom)
+    ∷ rough rising 64 191 2 (figures 2 (Some (pos 1064)) (pos 1064))
+    ∷ rough rising 0 199 4 (figures 4 (Some (pos 1000)) (pos 1000))
     -- the least of what is known, wherever it stands: of entries, and of values
-    ∷ rough (two ++ two) 0 255 2 (figures 2 (some (negsuc 8)) bottom)
-    ∷ rough (pos 7 ∷ negsuc 2 ∷ pos 4 ∷ pos 9 ∷ []) 0 2 3 (figures 3 (some (negsuc 2)) (negsuc 2))
+    ∷ rough (two ++ two) 0 255 2 (figures 2 (Some (negsuc 8)) bottom)
+    ∷ rough (pos 7 ∷ negsuc 2 ∷ pos 4 ∷ pos 9 ∷ []) 0 2 3 (figures 3 (Some (negsuc 2)) (negsuc 2))
     -- the last, shorter block, wholly inside and not
-    ∷ rough rising 192 199 1 (figures 1 (some (pos 1192)) (pos 1192))
-    ∷ rough rising 192 198 1 (figures 1 none (pos 1192))
-    ∷ rough rising 193 199 8 (figures 8 (some (pos 1193)) (pos 1193))
-    ∷ rough few 0 2 1 (figures 1 (some (negsuc 2)) (negsuc 2))
-    ∷ rough few 0 1 2 (figures 2 (some (pos 7)) (negsuc 2))
-    ∷ rough few 2 2 2 (figures 2 (some (pos 4)) (pos 4))
+    ∷ rough rising 192 199 1 (figures 1 (Some (pos 1192)) (pos 1192))
+    ∷ rough rising 192 198 1 (figures 1 None (pos 1192))
+    ∷ rough rising 193 199 8 (figures 8 (Some (pos 1193)) (pos 1193))
+    ∷ rough few 0 2 1 (figures 1 (Some (negsuc 2)) (negsuc 2))
+    ∷ rough few 0 1 2 (figures 2 (Some (pos 7)) (negsuc 2))
+    ∷ rough few 2 2 2 (figures 2 (Some (pos 4)) (pos 4))
     -- an index that was not built from the take: what it holds decides
-    ∷ over few (pos 9 ∷ []) 0 2 1 (figures 1 (some (pos 9)) (pos 9))
-    ∷ over few (pos 9 ∷ []) 0 1 1 (figures 1 none (pos 9))
-    ∷ over few (pos 9 ∷ []) 0 1 2 (figures 2 (some (pos 7)) (pos 9))
-    ∷ over few (pos 9 ∷ []) 0 1 3 (figures 3 (some (negsuc 2)) (negsuc 2))
-    ∷ over two (pos 0 ∷ pos 1 ∷ []) 0 127 2 (figures 2 (some (pos 0)) (pos 0))
+    ∷ over few (pos 9 ∷ []) 0 2 1 (figures 1 (Some (pos 9)) (pos 9))
+    ∷ over few (pos 9 ∷ []) 0 1 1 (figures 1 None (pos 9))
+    ∷ over few (pos 9 ∷ []) 0 1 2 (figures 2 (Some (pos 7)) (pos 9))
+    ∷ over few (pos 9 ∷ []) 0 1 3 (figures 3 (Some (negsuc 2)) (negsuc 2))
+    ∷ over two (pos 0 ∷ pos 1 ∷ []) 0 127 2 (figures 2 (Some (pos 0)) (pos 0))
     -- both ends of the values, −2,147,483,648 and 2,147,483,647
-    ∷ rough (pos 2147483647 ∷ bottom ∷ []) 0 1 1 (figures 1 (some bottom) bottom)
-    ∷ rough (pos 2147483647 ∷ bottom ∷ []) 0 0 2 (figures 2 (some (pos 2147483647)) (pos 2147483647))
+    ∷ rough (pos 2147483647 ∷ bottom ∷ []) 0 1 1 (figures 1 (Some bottom) bottom)
+    ∷ rough (pos 2147483647 ∷ bottom ∷ []) 0 0 2 (figures 2 (Some (pos 2147483647)) (pos 2147483647))
     -- "Replies 14 and 15 hold here too, for B = 0 as well, with 0 looks used and neither figure shown", 15 before 14
     ∷ rough few 1 0 5 (refused_with 14)
     ∷ rough few 0 3 0 (refused_with 14)
@@ -132,7 +134,7 @@ orders =
 
 -- every call gives what an example says
 abbrev pub Gives : ReadSays → Rough → Type 0
-Gives says e = (r : Reading) → says e.values e.index e.i e.j e.budget r → told r ≡ e.tells
+Gives says e = (r : Result Figures Refusal) → says e.values e.index e.i e.j e.budget r → told r ≡ e.tells
 
 -- the full count of the range from 10 to 150 of 200 values
 abbrev pub full_count : ℕ

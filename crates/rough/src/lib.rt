@@ -2,45 +2,35 @@
 // looks allows the first B of them; what they show bounds the least value of the range from above and from below.
 #![tactic(auto)]
 
-ghost use Rattle.std.specs.Prelude.{◌≡◌, ◌+◌, ◌*◌, ◌<◌, ◌≤◌, min, max, length};
-ghost use Rattle.std.proofs.Math.Option.{some};
-ghost use Rattle.blocks.specs.Takes.{block_count, figure};
-ghost use Rattle.rough.specs.declared.Reading.{Reading};
+ghost use Rattle.std.specs.Prelude.{◌≡◌, ◌+◌, ◌*◌, ◌<◌, ◌≤◌, min, length, IsSome};
 ghost use Rattle.rough.specs.Looks.{looks_used, figures_after, rough_reading, told};
-ghost use Rattle.rough.specs.Private.{lower_of, Sees, SeesEntries, SeesValues, Shown, low_by, CutsAt};
+ghost use Rattle.rough.specs.Private.{lower_of, Sees, SeesEntries, SeesValues, low_by, CutsAt};
 
-use blocks::Known;
-use history::{Due, Refusal};
+use blocks::Indexed;
+use history::Refusal;
 
 // What the looks show: how many were used; the high figure, the least value that is known to be in the range, if one is; and the low figure, which the least of the range is not below where the
 // index was built from that take.
 #[derive(Clone, Copy)]
 pub struct Figures {
     pub looks: usize,
-    pub high: Known,
+    pub high: Option<i32>,
     pub low: i32,
-}
-
-// The answer. A refusal uses no look and shows no figure.
-#[derive(Clone, Copy)]
-pub enum Reading {
-    Figures(Figures),
-    Refused(Refusal),
 }
 
 // What is left of the budget after some looks, and the least of what they showed.
 #[derive(Clone, Copy)]
 struct Seen {
     rest: usize,
-    least: Known,
+    least: Option<i32>,
 }
 
 // The same of index entries: the least of all, and of those whose blocks are wholly inside the range.
 #[derive(Clone, Copy)]
 struct Entries {
     rest: usize,
-    all: Known,
-    whole: Known,
+    all: Option<i32>,
+    whole: Option<i32>,
 }
 
 // Where a range is cut: its blocks wholly inside go from `inner` to before `outer`; its values in other blocks to before `left`, and from `right` on.
@@ -52,113 +42,71 @@ struct Cuts {
     right: usize,
 }
 
-fn larger(a: usize, b: usize) -> usize
-    ensures { result ≡ max a b }
-{
-    if a < b {
-        return b;
-    }
-    a
-}
-
 // The lower of two, where both are known.
-fn lower(earlier: Known, later: Known) -> Known
-    ensures { figure result ≡ lower_of (figure earlier) (figure later) }
+fn lower(earlier: Option<i32>, later: Option<i32>) -> Option<i32>
+    ensures { result ≡ lower_of earlier later }
 {
-    match later {
-        Known::Nothing => earlier,
-        Known::Value(v) => match earlier {
-            Known::Nothing => later,
-            Known::Value(u) => {
-                if v < u {
-                    return later;
-                }
-                earlier
-            }
-        },
+    match (earlier, later) {
+        (Some(u), Some(v)) => Some(u.min(v)),
+        _ => earlier.or(later),
     }
 }
 
-// Looks at the values from `from` to before `to`, left to right, as far as the budget goes.
-fn look(values: &[i32], from: usize, to: usize, budget: usize) -> Seen
-    requires { (from ≤ to) × (to ≤ length values.now) }
-    ensures { Sees values.now from to budget result }
+// Looks at some values, left to right, as far as the budget goes.
+fn look(values: &[i32], budget: usize) -> Seen
+    ensures { Sees values.now budget result }
 {
-    if budget < to - from {
-        return Seen {
-            rest: 0,
-            least: blocks::least_of(&values[from..from + budget]),
-        };
-    }
+    let seen = budget.min(values.len());
     Seen {
-        rest: budget - (to - from),
-        least: blocks::least_of(&values[from..to]),
+        rest: budget - seen,
+        least: blocks::least_of(&values[..seen]),
     }
 }
 
-// Looks at the index entries of the blocks from `first` to before `end`, of which those from `inner` to before `outer` are wholly inside the range.
-fn look_at_entries(
-    index: &[i32],
-    first: usize,
-    inner: usize,
-    outer: usize,
-    end: usize,
-    budget: usize,
-) -> Entries
-    requires { (first ≤ inner) × (inner ≤ outer) × (outer ≤ end) × (end ≤ length index.now) }
-    ensures { SeesEntries index.now first inner outer end budget result }
+// Looks at the index entries of blocks that meet the range: of those before the blocks wholly inside, of these, and of those behind them.
+fn look_at_entries(before: &[i32], inside: &[i32], behind: &[i32], budget: usize) -> Entries
+    ensures { SeesEntries before.now inside.now behind.now budget result }
 {
-    let left = look(index, first, inner, budget);
-    let whole = look(index, inner, outer, left.rest);
-    let right = look(index, outer, end, whole.rest);
-    let before = left.least;
-    let inside = whole.least;
-    let behind = right.least;
+    let left = look(before, budget);
+    let whole = look(inside, left.rest);
+    let right = look(behind, whole.rest);
     Entries {
         rest: right.rest,
-        all: lower(lower(before, inside), behind),
-        whole: inside,
+        all: lower(lower(left.least, whole.least), right.least),
+        whole: whole.least,
     }
 }
 
-// Looks at the values from `i` to before `a`, and then at those from `z` to before `e`.
-fn look_at_values(take: &[i32], i: usize, a: usize, z: usize, e: usize, budget: usize) -> Seen
-    requires { (i ≤ a) × (a ≤ z) × (z ≤ e) × (e ≤ length take.now) }
-    ensures { SeesValues take.now i a z e budget result }
+// Looks at the range's values in blocks only partly inside: at those before the blocks wholly inside, and then at those behind them.
+fn look_at_values(before: &[i32], behind: &[i32], budget: usize) -> Seen
+    ensures { SeesValues before.now behind.now budget result }
 {
-    let left = look(take, i, a, budget);
-    let right = look(take, z, e, left.rest);
-    let before = left.least;
-    let behind = right.least;
+    let left = look(before, budget);
+    let right = look(behind, left.rest);
     Seen {
         rest: right.rest,
-        least: lower(before, behind),
-    }
-}
-
-// The value that is known. It is only asked for where one is.
-fn value_of(known: Known) -> i32
-    requires { Shown (figure known) }
-    ensures { some result ≡ figure known }
-{
-    match known {
-        Known::Value(v) => v,
-        Known::Nothing => 0,
+        least: lower(left.least, right.least),
     }
 }
 
 // The low figure, where `entries` looks read all entries, and `full` are all looks: the least number of 32 bits, then the least entry, then the high figure.
-fn low_figure(budget: usize, entries: usize, full: usize, least: Known, high: Known) -> i32
-    requires { (entries ≤ budget → Shown (figure least)) × (full ≤ budget → Shown (figure high)) }
-    ensures { some result ≡ low_by budget entries full (figure least) (figure high) }
+fn low_figure(
+    budget: usize,
+    entries: usize,
+    full: usize,
+    least: Option<i32>,
+    high: Option<i32>,
+) -> i32
+    requires { (entries ≤ budget → IsSome least) × (full ≤ budget → IsSome high) }
+    ensures { Some result ≡ low_by budget entries full least high }
 {
     if budget < entries {
-        return -2147483648;
+        i32::MIN
+    } else if budget < full {
+        least.unwrap()
+    } else {
+        high.unwrap()
     }
-    if budget < full {
-        return value_of(least);
-    }
-    value_of(high)
 }
 
 // Where the values of a block begin, or else where the range ends that goes to `j`.
@@ -166,10 +114,7 @@ fn begins(block: usize, j: usize) -> usize
     requires { j < 18446744073709551615 }
     ensures { result ≡ min (64 * block) (j + 1) }
 {
-    if block <= j / 64 {
-        return 64 * block;
-    }
-    j + 1
+    if block <= j / 64 { 64 * block } else { j + 1 }
 }
 
 // The blocks wholly inside the range from `i` to `j`, of a take of `n` values, and where the range's other values end and begin again.
@@ -178,7 +123,7 @@ fn cut(n: usize, i: usize, j: usize) -> Cuts
     ensures { CutsAt n i j result }
 {
     let inner = blocks::block_count(i);
-    let outer = larger(inner, blocks::blocks_before(n, j + 1));
+    let outer = inner.max(blocks::blocks_before(n, j + 1));
     Cuts {
         inner,
         outer,
@@ -188,34 +133,41 @@ fn cut(n: usize, i: usize, j: usize) -> Cuts
 }
 
 // What the looks that the budget allows show of the range from `i` to `j`. The blocks that meet it go from `first` to before `end`.
-fn figures_of(take: &[i32], index: &[i32], i: usize, j: usize, budget: usize) -> Figures
-    requires { (i ≤ j) × (j < length take.now) × (length index.now ≡ block_count (length take.now)) }
-    ensures { told (Reading.Figures result) ≡ figures_after take.now index.now i j (looks_used (length take.now) i j budget) }
+fn figures_of(stored: Indexed, i: usize, j: usize, budget: usize) -> Figures
+    requires { (i ≤ j) × (j < length stored.take.now) }
+    ensures { told (Ok result) ≡ figures_after stored.entry.take.now stored.entry.index.now i j (looks_used (length stored.entry.take.now) i j budget) }
 {
+    let take = stored.take;
+    let index = stored.index;
     let first = i / 64;
     let end = j / 64 + 1;
     let cuts = cut(take.len(), i, j);
-    let entries = look_at_entries(index, first, cuts.inner, cuts.outer, end, budget);
-    let values = look_at_values(take, i, cuts.left, cuts.right, j + 1, entries.rest);
-    let all = entries.all;
-    let whole = entries.whole;
-    let edges = values.least;
-    let high = lower(whole, edges);
+    let entries = look_at_entries(
+        &index[first..cuts.inner],
+        &index[cuts.inner..cuts.outer],
+        &index[cuts.outer..end],
+        budget,
+    );
+    let edges = look_at_values(&take[i..cuts.left], &take[cuts.right..j + 1], entries.rest);
+    let high = lower(entries.whole, edges.least);
     let full = end - first + (cuts.left - i + (j + 1 - cuts.right));
     Figures {
-        looks: budget - values.rest,
+        looks: budget - edges.rest,
         high,
-        low: low_figure(budget, end - first, full, all, high),
+        low: low_figure(budget, end - first, full, entries.all, high),
     }
 }
 
-// A rough reading of the range from `i` to `j`, both included, with a budget of looks. Refused where a search is.
-pub fn read(take: &[i32], index: &[i32], i: usize, j: usize, budget: usize) -> Reading
+// A rough reading of the range from `i` to `j`, both included, with a budget of looks. Refused where a search is, with no look and no figure.
+pub fn read(
+    take: &[i32],
+    index: &[i32],
+    i: usize,
+    j: usize,
+    budget: usize,
+) -> Result<Figures, Refusal>
     ensures { told result ≡ rough_reading take.now index.now i j budget }
 {
-    let refusal = blocks::due(take.len(), index.len(), i, j);
-    match refusal {
-        Due::Refused(why) => Reading::Refused(why),
-        Due::Nothing => Reading::Figures(figures_of(take, index, i, j, budget)),
-    }
+    blocks::due(take.len(), index.len(), i, j)?;
+    Ok(figures_of(Indexed { take, index }, i, j, budget))
 }

@@ -1,4 +1,3 @@
-pub mod Copies
 pub mod Decimals
 pub mod SignedTexts
 pub mod Texts

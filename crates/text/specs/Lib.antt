@@ -1,4 +1,5 @@
 pub mod Writing
+pub mod Pages
 pub mod Parts
 pub mod Stops
 pub mod Numbered

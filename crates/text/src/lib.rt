@@ -2,96 +2,179 @@
 // share.
 #![tactic(auto)]
 
-ghost use Rattle.std.specs.Prelude.{◌++◌, ◌+◌, ◌≤◌, length};
-ghost use Rattle.history.specs.Replies.{told};
-ghost use Rattle.text.specs.Writing.{Adds, decimal_of, signed_text};
-ghost use Rattle.text.specs.Parts.{value_text, minimum_text, reply_text};
+ghost use Rattle.std.specs.Prelude.{◌≡◌, List, [], ◌++◌, ℕ, ◌+◌, ◌≤◌, length};
+ghost use Rattle.text.specs.Writing.{decimal_of, signed_text};
+ghost use Rattle.text.specs.Pages.{HasRoom, Puts};
+ghost use Rattle.text.specs.Parts.{value_text, least_text, shown_text, replied_text};
 ghost use Rattle.text.specs.Stops.{stop_lines};
 
-use history::{Minimum, Reply};
+use history::{Position, RangeMinimum, Refusal};
 
-// Writes a text behind the first `used` bytes, and returns how many are then written.
-pub fn put(out: &mut [u8], used: usize, text: &[u8]) -> usize
-    requires { used + length text.now ≤ length out.old }
-    ensures { Adds out.old used text.now out.new result }
-{
-    let mut i = 0;
-    while i < text.len() {
-        out[used + i] = text[i];
-        i += 1;
-    }
-    used + i
+// What a reply may show.
+pub trait Shown: Copy {
+    // Its text, and how many bytes that has at most.
+    ghost text: { Self → List ℕ };
+
+    ghost most: { ℕ };
+
+    fn put_on(self, page: &mut Page<'_>)
+        requires { HasRoom page.old most }
+        ensures text { Puts page.old (text self) page.new }
+        ensures few { page.new.used ≤ page.old.used + most };
 }
 
-pub fn put_number(out: &mut [u8], used: usize, n: u64) -> usize
-    requires { used + length (decimal_of n) ≤ length out.old }
-    ensures { Adds out.old used (decimal_of n) out.new result }
-{
-    let mut digits = [0u8; 20];
-    let k = io::decimal(n, &mut digits);
-    put(out, used, &digits[..k])
+// Nothing is shown.
+impl Shown for () {
+    ghost text = { λ _. [] };
+
+    ghost most = { 0 };
+
+    fn put_on(self, _page: &mut Page<'_>) {}
 }
 
-// A text, and a number behind it.
-pub fn put_numbered(out: &mut [u8], used: usize, text: &[u8], n: u64) -> usize
-    requires { used + length (text.now ++ decimal_of n) ≤ length out.old }
-    ensures { Adds out.old used (text.now ++ decimal_of n) out.new result }
-{
-    let number = put(out, used, text);
-    put_number(out, number, n)
+// A place that has a number, of so many digits at most.
+pub trait Place: Copy {
+    ghost number: { Self → ℕ };
+
+    ghost digits: { ℕ };
+
+    fn number(self) -> u64
+        ensures number { result ≡ number self }
+        ensures few { length (decimal_of (number self)) ≤ digits };
 }
 
-// A value, which has no more than eleven bytes.
-pub fn put_signed(out: &mut [u8], used: usize, v: i32) -> usize
-    requires { used + 11 ≤ length out.old }
-    ensures { Adds out.old used (signed_text v) out.new result × (result ≤ used + 11) }
-{
-    if v < 0 {
-        return put_numbered(out, used, b"-", signed::magnitude(v));
-    }
-    put_number(out, used, signed::magnitude(v))
-}
+// A position of a stream.
+impl Place for Position {
+    ghost number = { λ place. place.0 };
 
-// A value behind a space.
-pub fn put_value(out: &mut [u8], used: usize, v: i32) -> usize
-    requires { used + 12 ≤ length out.old }
-    ensures { Adds out.old used (value_text v) out.new result × (result ≤ used + 12) }
-{
-    let space = put(out, used, b" ");
-    put_signed(out, space, v)
-}
+    ghost digits = { 10 };
 
-// A minimum: its value and its place, each behind a space.
-pub fn put_minimum(out: &mut [u8], used: usize, minimum: Minimum) -> usize
-    requires { used + 23 ≤ length out.old }
-    ensures { Adds out.old used (minimum_text minimum) out.new result × (result ≤ used + 23) }
-{
-    let value = put_value(out, used, minimum.value);
-    let place = minimum.place;
-    put_numbered(out, value, b" ", place.0 as u64)
-}
-
-// A reply: its number, and the minimum that it shows, if any.
-pub fn put_reply(out: &mut [u8], used: usize, reply: Reply) -> usize
-    requires { used + 26 ≤ length out.old }
-    ensures { Adds out.old used (reply_text (told reply)) out.new result × (result ≤ used + 26) }
-{
-    let number = put_number(out, used, history::reply_number(reply) as u64);
-    match reply {
-        Reply::Lowest(minimum) => put_minimum(out, number, minimum),
-        Reply::Accepted => number,
-        Reply::Refused(_) => number,
+    #[tactic(auto, using(crate::proofs::Decimals::place_few))]
+    fn number(self) -> u64 {
+        u64::from(self.0)
     }
 }
 
-// The line of the bytes that are left at an offset, where there are any.
-pub fn put_stop(out: &mut [u8], used: usize, left: usize, offset: usize) -> usize
-    requires { used + 26 ≤ length out.old }
-    ensures { Adds out.old used (stop_lines left offset) out.new result × (result ≤ used + 26) }
-{
-    if left == 0 {
-        return used;
+// The least value of a range and its place, each behind a space.
+impl<P: Place> Shown for RangeMinimum<P> {
+    ghost text = { λ least. least_text P.number least };
+
+    ghost most = { 13 + P.digits };
+
+    fn put_on(self, page: &mut Page<'_>) {
+        page.put_value(self.value);
+        let place = self.place;
+        page.put_numbered(b" ", place.number());
     }
-    let number = put_numbered(out, used, b"stop ", offset as u64);
-    put(out, number, b"\n")
+}
+
+// What is there, if anything.
+impl<T: Shown> Shown for Option<T> {
+    ghost text = { λ shown. shown_text T.text shown };
+
+    ghost most = { T.most };
+
+    fn put_on(self, page: &mut Page<'_>) {
+        if let Some(shown) = self {
+            shown.put_on(page);
+        }
+    }
+}
+
+// Bytes that are lent, and how many of them are written: those at the start.
+#[derive(Drop)]
+pub struct Page<'a> {
+    pub out: &'a mut [u8],
+    pub used: usize,
+}
+
+impl<'a> Page<'a> {
+    // No byte is written yet.
+    pub fn new(out: &'a mut [u8]) -> Page<'a>
+        ensures same { result.out.ghost_name ≡ out.entry.ghost_name }
+        ensures bytes { result.out.now ≡ out.old }
+        ensures nothing { result.used ≡ 0 }
+    {
+        Page { out, used: 0 }
+    }
+
+    // Writes a text behind those that are written.
+    pub fn put(&mut self, text: &[u8])
+        requires { HasRoom self.old (length text.now) }
+        ensures { Puts self.old text.now self.new }
+    {
+        let end = self.used + text.len();
+        self.out[self.used..end].copy_from_slice(text);
+        self.used = end;
+    }
+
+    pub fn put_number(&mut self, n: u64)
+        requires { HasRoom self.old (length (decimal_of n)) }
+        ensures { Puts self.old (decimal_of n) self.new }
+    {
+        let mut digits = [0u8; 20];
+        let k = io::decimal(n, &mut digits);
+        self.put(&digits[..k]);
+    }
+
+    // A text, and a number behind it.
+    pub fn put_numbered(&mut self, text: &[u8], n: u64)
+        requires { HasRoom self.old (length (text.now ++ decimal_of n)) }
+        ensures { Puts self.old (text.now ++ decimal_of n) self.new }
+    {
+        self.put(text);
+        self.put_number(n);
+    }
+
+    // A value, which has no more than eleven bytes.
+    #[tactic(auto, using(crate::proofs::SignedTexts::size_few, crate::proofs::SignedTexts::signed_few))]
+    pub fn put_signed(&mut self, v: i32)
+        requires { HasRoom self.old 11 }
+        ensures text { Puts self.old (signed_text v) self.new }
+        ensures few { self.new.used ≤ self.old.used + 11 }
+    {
+        if v < 0 {
+            self.put(b"-");
+        }
+        self.put_number(signed::magnitude(v));
+    }
+
+    // A value behind a space.
+    pub fn put_value(&mut self, v: i32)
+        requires { HasRoom self.old 12 }
+        ensures text { Puts self.old (value_text v) self.new }
+        ensures few { self.new.used ≤ self.old.used + 12 }
+    {
+        self.put(b" ");
+        self.put_signed(v);
+    }
+
+    // A reply: its number, and what an acceptance shows.
+    #[tactic(auto, using(crate::proofs::ReplyTexts::zero_few, crate::proofs::ReplyTexts::number_few))]
+    pub fn put_reply<T: Shown>(&mut self, reply: Result<T, Refusal>)
+        requires { HasRoom self.old (3 + T.most) }
+        ensures text { Puts self.old (replied_text T.text reply) self.new }
+        ensures few { self.new.used ≤ self.old.used + 3 + T.most }
+    {
+        match reply {
+            Ok(shown) => {
+                self.put_number(0);
+                shown.put_on(self);
+            }
+            Err(why) => self.put_number(u64::from(u8::from(why))),
+        }
+    }
+
+    // The line of the bytes that are left at an offset, where there are any.
+    #[tactic(auto, using(crate::proofs::Decimals::word_few))]
+    pub fn put_stop(&mut self, left: usize, offset: usize)
+        requires { HasRoom self.old 26 }
+        ensures text { Puts self.old (stop_lines left offset) self.new }
+        ensures few { self.new.used ≤ self.old.used + 26 }
+    {
+        if left > 0 {
+            self.put_numbered(b"stop ", offset as u64);
+            self.put(b"\n");
+        }
+    }
 }

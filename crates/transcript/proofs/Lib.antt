@@ -1,3 +1,4 @@
+pub mod Texts
 pub mod Rooms
 pub mod Streams
 pub mod Whole

@@ -1,7 +1,6 @@
 -- Document 01, "Played examples": the whole output of the stream program, as a function of its bytes. `transcript::write` leaves it in an array; the program's `main` reads the bytes before
 -- and writes the array after.
-use Rattle.std.specs.Prelude.{List, [], ◌++◌, ℕ, length, take}
-use Rattle.std.proofs.Math.Option.{Option, none, some}
+use Rattle.std.specs.Prelude.{List, [], ◌++◌, ℕ, length, take, Option, None, Some}
 use Rattle.history.specs.declared.Command.{Command}
 use Rattle.history.specs.Replies.{Told, acceptances}
 use Rattle.history.specs.Histories.{History, opening, model}
@@ -16,8 +15,8 @@ answer_lines n commands told = lines_from answer_line n commands told
 
 -- "upon a reading refusal `stop`": a line at the offset where there is one
 abbrev pub stop_lines : ℕ → Option ℕ → List ℕ
-stop_lines at none = []
-stop_lines at (some number) = stop_line at number
+stop_lines at None = []
+stop_lines at (Some number) = stop_line at number
 
 -- what is printed of a stream whose commands go to the bookkeeper of an opening of n words, each lent as many: "It prints `taps 60`; per command ..; upon a reading refusal `stop` ..;
 -- finally `end` with commands read, commands accepted and active taps"

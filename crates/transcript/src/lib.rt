@@ -3,100 +3,79 @@
 
 mod lines;
 
-ghost use Rattle.std.specs.Prelude.{◌≡◌, ◌+◌, ◌<◌, ◌≤◌, length, take};
+ghost use Rattle.std.specs.Prelude.{◌≡◌, ◌+◌, ◌*◌, ◌<◌, ◌≤◌, length, take};
 ghost use Rattle.io.specs.Counts.{IsPrefixLen};
+ghost use Rattle.reading.specs.Kinds.{bytes_of};
+ghost use Rattle.text.specs.Pages.{HasRoom, Puts};
 ghost use Rattle.transcript.specs.Streams.{stream_of};
 ghost use Rattle.transcript.specs.Output.{printed, output_of};
 ghost use Rattle.transcript.specs.Private.{Performs, Follows};
 
+use following::Progress;
 use history::{Command, Session};
-use reading::Reading;
-
-// How far a stream has been followed: the session, how many commands were read and accepted, and how many bytes are written.
-#[derive(Clone, Copy)]
-struct Progress {
-    session: Session,
-    read: usize,
-    accepted: usize,
-    used: usize,
-}
+use text::Page;
 
 // The next command, with its line, for which there is room. Its running number has no more than five digits.
-fn perform(progress: Progress, area: &mut [u64], command: Command, out: &mut [u8]) -> Progress
-    requires { (progress.accepted ≤ progress.read) × (progress.read < 99999) × (progress.used + 35 ≤ length out.old) }
-    ensures { Performs progress command area.old area.new out.old out.new result }
+fn perform(
+    progress: Progress<Session>,
+    area: &mut [u64],
+    command: Command,
+    page: &mut Page<'_>,
+) -> Progress<Session>
+    requires number { progress.read < 99999 }
+    requires room { HasRoom page.old 35 }
+    ensures performs { Performs progress command area.old area.new page.old page.new result }
+    // the line takes eleven bytes at most for each byte of the command, as many as that of a Mark that is refused with 10 and whose running number has five digits
+    ensures few { page.new.used ≤ page.old.used + 11 * bytes_of command }
 {
-    let read = progress.read + 1;
     let answer = engine::apply(progress.session, area, command);
-    let reply = answer.reply;
-    let session = answer.session;
-    let used = lines::answer(out, progress.used, read, command, reply);
-    Progress {
-        session,
-        read,
-        accepted: progress.accepted + history::acceptances_of(reply),
-        used,
-    }
+    lines::answer(page, progress.read + 1, command, answer.reply);
+    progress.after(answer)
 }
 
-// The commands of a stream go to the session one after the other, until it ends or one cannot be read.
+// The commands of a stream go to the session one after the other, until it ends or one cannot be read. An iterator over the commands would be no plainer: why one cannot be read, and where, is
+// printed behind them.
 fn follow(
     bytes: &[u8],
     area: &mut [u64],
     session: Session,
-    out: &mut [u8],
-    start: usize,
-) -> Progress
-    requires { (length bytes.now ≤ 16384) × (start + 180271 ≤ length out.old) }
-    ensures { Follows session area.old bytes.now out.old start out.new result }
+    page: &mut Page<'_>,
+) -> Progress<Session>
+    requires most { length bytes.now ≤ 16384 }
+    requires room { HasRoom page.old 180271 }
+    ensures follows { Follows session area.old area.new bytes.now page.old page.new result }
+    ensures few { page.new.used ≤ page.old.used + 180271 }
 {
-    let mut progress = Progress {
-        session,
-        read: 0,
-        accepted: 0,
-        used: start,
-    };
+    let mut progress = Progress::new(session);
     let mut at = 0;
     loop {
-        let reading = reading::read(&bytes[at..]);
-        match reading {
-            Reading::End => return progress,
-            Reading::Next { command, length } => {
-                progress = perform(progress, area, command, out);
-                at += length;
+        match reading::read(&bytes[at..]) {
+            Ok(None) => return progress,
+            Ok(Some(next)) => {
+                progress = perform(progress, area, next.command, page);
+                at += next.length;
             }
-            Reading::Refused(why) => {
-                let used = lines::stop(out, progress.used, at, why);
-                let session = progress.session;
-                return Progress {
-                    session,
-                    read: progress.read,
-                    accepted: progress.accepted,
-                    used,
-                };
+            Err(why) => {
+                lines::stop(page, at, why);
+                return progress;
             }
         }
     }
 }
 
 // A stream from its opening to its last line.
-fn play(bytes: &[u8], out: &mut [u8]) -> usize
-    requires { (length bytes.now ≤ 16384) × (180364 ≤ length out.old) }
-    ensures { (take result out.new ≡ printed 4352 (stream_of bytes.now)) × IsPrefixLen result out.new }
+fn play(bytes: &[u8], page: &mut Page<'_>)
+    requires most { length bytes.now ≤ 16384 }
+    requires room { HasRoom page.old 180364 }
+    ensures text { Puts page.old (printed 4352 (stream_of bytes.now)) page.new }
 {
     let mut area = [0u64; 4352];
     let opened = engine::open(&mut area);
     let session = opened.session;
-    let start = lines::taps(out, 0, session.limit);
-    let progress = follow(bytes, &mut area, session, out, start);
+    lines::taps(page, session.limit);
+    let progress = follow(bytes, &mut area, session, page);
     let last = progress.session;
-    lines::end(
-        out,
-        progress.used,
-        progress.read,
-        progress.accepted,
-        last.active,
-    )
+    lines::end(page, progress.read, progress.accepted, last.active);
 }
 
 // Writes all that is printed of a stream, of which no more than the first 16,384 bytes are read, and returns how many bytes that is: a number of bytes at the start of `out`, which is what
@@ -105,8 +84,7 @@ pub fn write(bytes: &[u8], out: &mut [u8; 180364]) -> usize
     ensures out_after { take result out.new ≡ output_of bytes.now }
     ensures prefix_len { IsPrefixLen result out.new }
 {
-    if bytes.len() <= 16384 {
-        return play(bytes, out);
-    }
-    play(&bytes[..16384], out)
+    let mut page = Page::new(out);
+    play(&bytes[..bytes.len().min(16384)], &mut page);
+    page.used
 }

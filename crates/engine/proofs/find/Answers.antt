@@ -13,4 +13,4 @@ pub returns : goal.returns
 returns c =
     let b = c.within.ensures.yes c.if-not-within.false in
     let l = opened c.args.s.words (length c.args.area.now) c.in_ok-lent.ensures in
-    rw c.ok_or.ensures (query_found _ _ _ l.0 l.1 _ c.look_up.ensures b.0 b.1)
+    rw c.ok_or.ensures.value (query_found _ _ _ l.0 l.1 _ c.look_up.ensures b.0 b.1)

@@ -1,7 +1,6 @@
 -- `engine::take_value` meets its contract. What the lengths and the last position refuse is refused; behind that every minimum is lowered by the value at the next
 -- position, which is the law `value_done`. The session's parts are then the next position, the value, the count as it was and the standing after a Value.
 use mathlib.Core.Path.{refl, sym, ap}
-use native.Mathlib.Omega.{arith}
 use lib.ListN.{length}
 use mir.Facts.{to_z-of_z}
 use Rattle.std.proofs.lemmas.Result.{err_from_is_err_and}

@@ -10,7 +10,7 @@ use lib.Seq.{set_out}
 use mir.Syntax.{w32}
 use mir.Val.{SFits}
 use mir.Facts.{to_z-of_z}
-use Rattle.listing.proofs.Requests.{searched, stretched, looked, entered}
+use Rattle.listing.proofs.Requests.{stretched, looked, entered}
 use Rattle.listing.proofs.perform.Goals as goal
 use Rattle.listing.proofs.perform.Goals.{Joined-entry-index, then-entry-index, else-entry-index}
 
@@ -29,21 +29,16 @@ altered c =
       | else-entry-index w ↦ w.index-is ∙ sym (set_out index entry v (omega (arith, w.if-entry-index.false)))
     ]
 
-pub returns-in-Search : goal.returns-in-Search
-returns-in-Search c =
-    searched c.in-Search.is c.search.ensures c.search-in-Search.ensures.0 c.search-in-Search.ensures.1
+pub returns-in-Stretch-clause-performs : goal.returns-in-Stretch-clause-performs
+returns-in-Stretch-clause-performs c =
+    stretched {values = c.args.take.now} {part = c.stretch.result.now} c.in-Stretch.is c.stretch.ensures.has c.stretch-in-Stretch.ensures.text
 
-pub returns-in-Stretch : goal.returns-in-Stretch
-returns-in-Stretch c =
-    stretched {values = c.args.take.now} {part = c.stretch.result.now} c.in-Stretch.is c.stretch.ensures.has c.stretch-in-Stretch.ensures.0 c.stretch-in-Stretch.ensures.1
-
-pub returns-in-Rough : goal.returns-in-Rough
-returns-in-Rough c =
-    looked c.in-Rough.is c.read.ensures c.rough.ensures.0 c.rough.ensures.1
+pub returns-in-Rough-clause-performs : goal.returns-in-Rough-clause-performs
+returns-in-Rough-clause-performs c = looked c.in-Rough.is c.read.ensures c.rough.ensures.text
 
 pub shape_of-index-after-entry-index : goal.shape_of-index-after-entry-index
 shape_of-index-after-entry-index c = ap length (altered (goal.at.shape_of-index-after-entry-index c).Joined-entry-index) ∙ simp length-set
 
-pub returns-after-entry-index : goal.returns-after-entry-index
-returns-after-entry-index c =
-    entered c.in-Set.is (altered (goal.at.returns-after-entry-index c).Joined-entry-index) c.set.ensures.0 c.set.ensures.1
+pub returns-after-entry-index-clause-performs : goal.returns-after-entry-index-clause-performs
+returns-after-entry-index-clause-performs c =
+    entered c.in-Set.is (altered (goal.at.returns-after-entry-index-clause-performs c).Joined-entry-index) c.set.ensures.text

@@ -27,4 +27,4 @@ shape_of-area c =
 
 pub returns : goal.returns
 returns c =
-    mark_done _ _ _ _ _ _ _ _ _ _ (omega arith) c.turn.ensures (c.read-e.ensures.own (omega (arith, (turned_inside c.turn.ensures).long))) c.pack-word.ensures.0 c.pack-word.ensures.1 c.append-grown.ensures c.merge.ensures
+    mark_done _ _ _ _ _ _ _ _ _ _ (omega arith) c.turn.ensures (c.read-e.ensures.own (omega (arith, (turned_inside c.turn.ensures).long))) c.pack.ensures.0 c.pack.ensures.1 c.append-grown.ensures c.merge.ensures

@@ -8,4 +8,4 @@ returns-then-area-lt32 c = value_short _ _ (omega arith)
 
 pub returns : goal.returns
 returns c =
-    value_done _ _ _ _ _ _ (omega arith) (c.read-active.ensures.own (omega arith)) c.pack-word.ensures.0 c.pack-word.ensures.1 c.lower-top.ensures
+    value_done _ _ _ _ _ _ (omega arith) (c.read-active.ensures.own (omega arith)) c.pack.ensures.0 c.pack.ensures.1 c.lower-top.ensures

@@ -9,5 +9,5 @@ pub returns : goal.returns
 returns c =
     let a = c.args in
     let inner = c.block_count-inner.ensures in
-    let outer = c.larger-outer.ensures ∙ ap (λ (x : ℕ). max x c.blocks_before.result) inner ∙ ap (max (block_count a.i)) c.blocks_before.ensures in
+    let outer = c.max-outer.ensures ∙ ap (λ (x : ℕ). max x c.blocks_before.result) inner ∙ ap (max (block_count a.i)) c.blocks_before.ensures in
     cuts_at a.n a.i a.j _ c.requires.0 c.requires.1 inner outer c.begins.ensures c.begins-2.ensures

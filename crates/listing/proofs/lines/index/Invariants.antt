@@ -1,13 +1,11 @@
--- `listing::lines::index` meets its contract. The loop's invariant: behind the word stand the first i entries, each of which has no more than twelve bytes. The measure is how many
--- entries are left.
-use Prim.Native.Nat.{◌+◌, ◌*◌, ◌-◌, ◌≤◌}
-use lib.ListN.{length, take}
-use Rattle.text.specs.Writing.{Adds}
+-- `listing::lines::index` meets its contract. The loop's invariant: the word and the entries so far are put, each entry in twelve bytes at most.
+use Prim.Native.Nat.{◌+◌, ◌*◌, ◌≤◌}
+use mathlib.Core.List.{◌∷◌}
+use lib.ListN.{take}
+use Rattle.text.specs.Pages.{Puts}
 use Rattle.listing.specs.Lines.{values_text}
 use Rattle.listing.proofs.lines.index.Given as goal
 
-abbrev pub invariant-loop-i : goal.invariant-loop-i
-invariant-loop-i l = (l.i ≤ length l.entries) × Adds l.initial.out l.initial.written (values_text (take l.i l.entries)) l.out l.written × (l.written ≤ l.initial.written + 12 * l.i)
-
-abbrev pub decreases-loop-i : goal.decreases-loop-i
-decreases-loop-i l = length l.entries - l.i
+abbrev pub invariant-loop-entry : goal.invariant-loop-entry
+invariant-loop-entry l =
+    Puts l.fn.page (105 ∷ 110 ∷ 100 ∷ 101 ∷ 120 ∷ values_text (take l.entry-index l.entries)) l.page × (l.page.used ≤ l.fn.page.used + 5 + 12 * l.entry-index)
