@@ -3,11 +3,11 @@
 use mathlib.Core.Path.{◌≡◌, refl, sym}
 use mathlib.Core.Bool.{true, false}
 use mathlib.Core.Logic.{inl, inr}
-use Prim.Native.Nat.{ℕ, suc, ◌+◌, ◌≤◌, ◌<◌, zero-le}
+use Prim.Native.Nat.{ℕ, suc, ◌≤◌, ◌<◌, zero-le}
 use native.Mathlib.Nat.{le_refl}
 use native.Mathlib.Omega.{arith}
 use lib.Dec.{leb→le}
-use lib.IntN.{ℤ, pos, negsuc, ◌-ℤ◌}
+use lib.IntN.{ℤ, pos, negsuc, nat_abs}
 use lib.Signed.{le_z, lt_z, ◌≤ℤ◌}
 use borrow.Author.Tests.{ltb-true, ltb-false, le-leb, lt-leb}
 use Rattle.laws.proofs.Tests.{clash, lt_or_ge}
@@ -31,18 +31,10 @@ pub silent : (v : ℤ) {b : ℕ} → 240 ≤ suc b → lt_z v (negsuc b) ≡ tru
 silent (pos n) h e = clash refl (sym e)
 silent (negsuc k) {b} h e = sym (without_entry k (omega (arith, ltb-true b k e)))
 
--- a value below 0, and not below a bound of -240 or more, is -n, with an n of at most 240
-pub record Between (v : ℤ) : Type 0 where
-  pub n : ℕ
-  pub less : (a : ℕ) → pos a -ℤ v ≡ pos (a + n)
-  pub small : n ≤ 240
-  pub gain : entry_of n ≡ gain_of v
-
-pub between : (v : ℤ) {b : ℕ} → suc b ≤ 240 → le_z (pos 0) v ≡ false → lt_z v (negsuc b) ≡ false → Between v
+-- a value below 0, and not below a bound of -240 or more, has the entry of its size
+pub between : (v : ℤ) {b : ℕ} → suc b ≤ 240 → le_z (pos 0) v ≡ false → lt_z v (negsuc b) ≡ false → entry_of (nat_abs v) ≡ gain_of v
 between (pos n) h e f = clash (le-leb 0 n zero-le) e
-between (negsuc k) {b} h e f =
-    let s : suc k ≤ 240 = omega (arith, ltb-false b k f) in
-    record { n = suc k; less = λ a. refl; small = s; gain = sym (with_entry k s) }
+between (negsuc k) {b} h e f = sym (with_entry k (omega (arith, ltb-false b k f)))
 
 -- no gain is above 32,768
 pub gain_at_most : (v : ℤ) → gain_of v ≤ 32768

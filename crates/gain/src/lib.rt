@@ -31,7 +31,7 @@ fn entry(n: usize) -> u16
     GAINS[n]
 }
 
-// The gain of a value. The least value has no negative in i32, and needs none: the second test has returned for it before the sign is changed.
+// The gain of a value. The size of the least value fits no i32, but a u32.
 pub fn gain(v: i32) -> u16
     ensures { result ≡ gain_of v }
 {
@@ -41,5 +41,5 @@ pub fn gain(v: i32) -> u16
     if v < -240 {
         return 0;
     }
-    entry((-v) as usize)
+    entry(v.unsigned_abs() as usize)
 }
