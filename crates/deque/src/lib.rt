@@ -51,7 +51,7 @@ impl Ring {
         requires { self.slots < length area.now }
         ensures { result ≡ gone area.now self.slots self.front place }
     {
-        area[1 + self.front] % 4294967296 + self.slots as u64 <= place.0 as u64
+        area[1 + self.front] % 4294967296 + self.slots as u64 <= u64::from(place.0)
     }
 
     // The slot behind the front's: after the last one comes the first.

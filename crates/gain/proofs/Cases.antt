@@ -1,7 +1,7 @@
--- The three cases of a value, as the function's two tests tell them apart, and the order of the gains over all values. The bound of the second test, and the number
--- that the value is taken from, are whatever the code has: what is asked of them is a premise.
-use mathlib.Core.Path.{◌≡◌, refl, sym}
-use mathlib.Core.Bool.{true, false}
+-- The entry of a value that is behind both of the function's tests, and the order of the gains over all values. The bound of the second test is whatever the code has: what is asked of it
+-- is a premise.
+use mathlib.Core.Path.{◌≡◌, sym}
+use mathlib.Core.Bool.{false}
 use mathlib.Core.Logic.{inl, inr}
 use Prim.Native.Nat.{ℕ, suc, ◌≤◌, ◌<◌, zero-le}
 use native.Mathlib.Nat.{le_refl}
@@ -9,7 +9,7 @@ use native.Mathlib.Omega.{arith}
 use lib.Dec.{leb→le}
 use lib.IntN.{ℤ, pos, negsuc, nat_abs}
 use lib.Signed.{le_z, lt_z, ◌≤ℤ◌}
-use borrow.Author.Tests.{ltb-true, ltb-false, le-leb, lt-leb}
+use borrow.Author.Tests.{ltb-false, le-leb, lt-leb}
 use Rattle.laws.proofs.Tests.{clash, lt_or_ge}
 use Rattle.gain.specs.Gains.{entry_of, gain_of}
 use Rattle.gain.proofs.Rule.{entries_never_rise, entry_at_most}
@@ -20,16 +20,6 @@ with_entry k h = rw (le-leb (suc k) 240 h)
 
 pub without_entry : (k : ℕ) → 240 < suc k → gain_of (negsuc k) ≡ 0
 without_entry k h = rw (lt-leb (suc k) 240 h)
-
--- a value of 0 or more
-pub full : (v : ℤ) → le_z (pos 0) v ≡ true → 32768 ≡ gain_of v
-full (pos n) e = refl
-full (negsuc k) e = clash refl (sym e)
-
--- a value below a bound of -240 or less
-pub silent : (v : ℤ) {b : ℕ} → 240 ≤ suc b → lt_z v (negsuc b) ≡ true → 0 ≡ gain_of v
-silent (pos n) h e = clash refl (sym e)
-silent (negsuc k) {b} h e = sym (without_entry k (omega (arith, ltb-true b k e)))
 
 -- a value below 0, and not below a bound of -240 or more, has the entry of its size
 pub between : (v : ℤ) {b : ℕ} → suc b ≤ 240 → le_z (pos 0) v ≡ false → lt_z v (negsuc b) ≡ false → entry_of (nat_abs v) ≡ gain_of v

@@ -1,4 +1,4 @@
-// A minimum as a word and back. The order of words is that of the choice, by value and among equal values by place.
+// A minimum as a word and back. The order of words is that of the choice, by value and among equal values by place. Two functions and no `From`, since both types are other crates' own.
 #![tactic(auto)]
 
 ghost use Rattle.std.specs.Prelude.{◌≡◌};
@@ -10,8 +10,7 @@ use history::{Minimum, Position};
 pub fn pack(m: Minimum) -> u64
     ensures { (result ≡ packed m) × (unpacked result ≡ m) }
 {
-    let place = m.place;
-    signed::to_word(m.value) * 4294967296 + place.0 as u64
+    signed::to_word(m.value) * 4294967296 + u64::from(m.place.0)
 }
 
 // The minimum of a word, so that every word has one.
