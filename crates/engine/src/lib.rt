@@ -1,5 +1,5 @@
 // The level engine: an opening and the four commands of source document 000, over words that the caller lends.
-// The session goes in with each call and a new one comes out; all else that outlives a call is in the words.
+// The session goes in with each call and a new one comes out; all else that outlives a call is in the words. No struct holds both: each call may be lent other words, and C passes them so.
 #![tactic(auto)]
 
 ghost use Rattle.std.specs.Prelude.{◌≡◌, ◌<◌, length};
@@ -192,7 +192,7 @@ fn take_close(s: Session, area: &mut [u64], i: Position) -> Result<Session, Refu
     })
 }
 
-// Any command.
+// Any command. A match is plainest: what a command carries differs by its kind.
 pub fn apply(s: Session, area: &mut [u64], command: Command) -> Answer<Session>
     ensures { Does s command area.old area.new result }
 {

@@ -122,7 +122,7 @@ impl Iterator for Reader<'_> {
     }
 }
 
-// The n-th request, with its line, for which there is room.
+// The n-th request, with its line, for which there is room. A match is plainest: what a request carries differs by its kind.
 fn perform(request: Request, n: usize, take: &[i32], index: &mut [i32], page: &mut Page<'_>)
     requires number { n < 100000 }
     requires room { HasRoom page.old 59 }

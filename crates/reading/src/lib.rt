@@ -53,6 +53,7 @@ fn argument_bytes(kind: Kind) -> usize
     }
 }
 
+// A match is plainest: what a command carries differs by its kind.
 fn command_of(kind: Kind, argument: u32) -> Command
     ensures { result ≡ command_of kind argument }
 {

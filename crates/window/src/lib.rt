@@ -1,5 +1,5 @@
 // The look-ahead window of document 02, point 2: an opening, and a value after which the least of the last W values is told, over words that the caller lends.
-// The session goes in with each call and a new one comes out; all else that outlives a call is in the words.
+// The session goes in with each call and a new one comes out; all else that outlives a call is in the words. No struct holds both: each call may be lent other words, and C passes them so.
 #![tactic(auto)]
 
 ghost use Rattle.std.specs.Prelude.{◌≡◌, IfOk};
