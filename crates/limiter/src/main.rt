@@ -1,6 +1,5 @@
 // The limiter of document 02, point 2: reads W, the number of words to lend and values from standard input, as bytes, and writes all that is printed of them to standard output. What that
 // is, is proved in `readout`.
-// One `main` for the three programs would be no plainer: it would take both lengths and the function that writes, for the five lines below.
 #![tactic(auto)]
 
 fn main() {

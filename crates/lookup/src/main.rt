@@ -1,6 +1,5 @@
 // `lookup` of document 02, points 3 and 6: reads a take, the length of its index and requests from standard input, as bytes, and writes all that is printed of them to standard output. What that is,
 // is proved in `listing`.
-// One `main` for the three programs would be no plainer: it would take both lengths and the function that writes, for the five lines below.
 #![tactic(auto)]
 
 fn main() {

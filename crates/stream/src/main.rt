@@ -1,5 +1,4 @@
 // The stream program of document 01: reads the bytes of commands from standard input, and writes all that is printed of them to standard output. What that is, is proved in `transcript`.
-// One `main` for the three programs would be no plainer: it would take both lengths and the function that writes, for the five lines below.
 #![tactic(auto)]
 
 fn main() {
