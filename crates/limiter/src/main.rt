@@ -2,6 +2,7 @@
 // is, is proved in `readout`.
 #![tactic(auto)]
 
+// Three programs have this `main`, of other sizes. One function for them would take `write` under a bound `Fn` that names the size of `out`, and gets no proof yet.
 fn main() {
     let mut bytes = [0u8; 65536];
     let n = io::read_full(0, &mut bytes);

@@ -81,7 +81,8 @@ impl<T: Shown> Shown for Option<T> {
     }
 }
 
-// Bytes that are lent, and how many of them are written: those at the start.
+// Bytes that are lent, and how many of them are written: those at the start. No `fmt::Write`, and no `Display` of what is put: what these promise holds where `Ok` comes back, and nothing says when it
+// does, while there is room here for all that is put.
 #[derive(Drop)]
 pub struct Page<'a> {
     pub out: &'a mut [u8],
