@@ -2,12 +2,13 @@
 ghost use Rattle.std.specs.Prelude.{◌*◌, ◌<◌, ◌^◌};
 
 use crate::shown::Shown;
-use crate::{rounds, script, words};
+use crate::{rounds, script};
 use history::{Command, Session};
 use std::{fmt, io};
 
+// The engine's, or, with its session for S, the window's.
 #[derive(Drop)]
-pub struct Board<'a, R: Print + Drop, S: Copy + Drop, const N: usize> {
+pub struct Board<'a, R: Print + Drop, const N: usize, S: Copy + Drop = Session> {
     pub rt: &'a R,
     pub area: &'a mut [u64; N],
     pub session: S,
@@ -15,8 +16,13 @@ pub struct Board<'a, R: Print + Drop, S: Copy + Drop, const N: usize> {
     ghost fits: { N * 8 < 2 ^ 63 },
 }
 
-// Of the engine and of the window.
-impl<R: Print + Drop, S: Copy + Drop, const N: usize> Board<'_, R, S, N>
+// The first n words of an area, or all where there are fewer.
+pub fn first<const N: usize>(area: &mut [u64; N], n: usize) -> &mut [u64] {
+    let n = n.min(N);
+    &mut area[..n]
+}
+
+impl<R: Print + Drop, const N: usize, S: Copy + Drop> Board<'_, R, N, S>
 where
     Shown<S>: fmt::Display,
 {
@@ -27,7 +33,7 @@ where
 
     // The same, with how many words from an index on were changed since the area was filled.
     pub fn end_changed(&self, from: usize) -> io::Result<()> {
-        let changed = words::changed(self.area, from);
+        let changed = compare::off_pattern(self.area, from);
         println!(self.rt;
             "{}; words changed from {from} on: {changed}",
             Shown(self.session)
@@ -35,20 +41,15 @@ where
     }
 }
 
-// Of the engine.
-impl<'a, R: Print + Drop, const N: usize> Board<'a, R, Session, N> {
+impl<'a, R: Print + Drop, const N: usize> Board<'a, R, N> {
     // An opening of the whole area.
-    pub fn open(rt: &'a R, area: &'a mut [u64; N]) -> io::Result<Board<'a, R, Session, N>> {
+    pub fn open(rt: &'a R, area: &'a mut [u64; N]) -> io::Result<Board<'a, R, N>> {
         Board::open_first(rt, area, N)
     }
 
     // An opening of the first n words, or of all where there are fewer.
-    pub fn open_first(
-        rt: &'a R,
-        area: &'a mut [u64; N],
-        n: usize,
-    ) -> io::Result<Board<'a, R, Session, N>> {
-        let lent = words::first(area, n);
+    pub fn open_first(rt: &'a R, area: &'a mut [u64; N], n: usize) -> io::Result<Board<'a, R, N>> {
+        let lent = first(area, n);
         let words = lent.len();
         let answer = engine::open(lent);
         print!(rt; "open {words}: {}; ", Shown(answer.reply))?;
@@ -61,31 +62,33 @@ impl<'a, R: Print + Drop, const N: usize> Board<'a, R, Session, N> {
 
     // A command lent the first n words.
     fn apply(&mut self, n: usize, command: Command) -> io::Result<()> {
-        let answer = engine::apply(self.session, words::first(self.area, n), command);
+        let answer = engine::apply(self.session, first(self.area, n), command);
         self.session = answer.session;
         print!(self.rt; "{}: {}; ", Shown(command), Shown(answer.reply))
     }
 
-    // Makes each call of a script in turn, lent the whole area.
-    pub fn run(&mut self, script: &str) -> io::Result<()> {
-        for command in script.split_whitespace().filter_map(script::command_of) {
-            self.apply(N, command)?;
-        }
-        Ok(())
-    }
-
-    // The same, lent the first n words.
-    pub fn run_on(&mut self, n: usize, script: &str) -> io::Result<()> {
-        print!(self.rt; "lent {n} ")?;
+    // Makes each call of a script in turn, lent the first n words.
+    fn apply_each(&mut self, n: usize, script: &str) -> io::Result<()> {
         for command in script.split_whitespace().filter_map(script::command_of) {
             self.apply(n, command)?;
         }
         Ok(())
     }
 
+    // Makes each call of a script in turn, lent the whole area.
+    pub fn run(&mut self, script: &str) -> io::Result<()> {
+        self.apply_each(N, script)
+    }
+
+    // The same, lent the first n words, or all where there are fewer.
+    pub fn run_first(&mut self, n: usize, script: &str) -> io::Result<()> {
+        print!(self.rt; "lent {} ", n.min(N))?;
+        self.apply_each(n, script)
+    }
+
     // As many rounds as `turns` says, all of one value. Prints how many commands were accepted.
     pub fn play(&mut self, v: i32, turns: u32) -> io::Result<()> {
-        let played = rounds::play(self.session, words::first(self.area, N), v, turns);
+        let played = rounds::play(self.session, first(self.area, N), v, turns);
         self.session = played.session;
         print!(self.rt; "{turns} rounds: {} accepted; ", played.accepted)
     }

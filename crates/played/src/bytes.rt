@@ -1,6 +1,5 @@
 // Command bytes and how they are read, a line each.
 use crate::shown::Shown;
-use reading::Reading;
 use std::io;
 
 fn read(rt: &impl Print, rest: &[u8]) -> io::Result<()> {
@@ -9,11 +8,9 @@ fn read(rt: &impl Print, rest: &[u8]) -> io::Result<()> {
         print!(rt; " {byte:02x}")?;
     }
     match reading::read(rest) {
-        Reading::End => println!(rt; ": end"),
-        Reading::Next { command, length } => {
-            println!(rt; ": {}, length {length}", Shown(command))
-        }
-        Reading::Refused(refusal) => println!(rt; ": {}", history::number(refusal)),
+        Ok(None) => println!(rt; ": end"),
+        Ok(Some(next)) => println!(rt; ": {}, length {}", Shown(next.command), next.length),
+        Err(refusal) => println!(rt; ": {}", u8::from(refusal)),
     }
 }
 

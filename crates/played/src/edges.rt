@@ -8,7 +8,7 @@ fn other_lengths(rt: &(impl Print + Drop)) -> io::Result<()> {
     let mut area = [0u64; 577];
     let mut board = Board::open_first(rt, &mut area, 576)?;
     for n in [575, 577, 0, 576] {
-        board.run_on(n, "V1")?;
+        board.run_first(n, "V1")?;
     }
     board.end()
 }
@@ -18,7 +18,7 @@ fn unopened(rt: &(impl Print + Drop)) -> io::Result<()> {
     let mut area = [0u64; 576];
     let mut board = Board::open_first(rt, &mut area, 575)?;
     for n in [575, 576, 0] {
-        board.run_on(n, "V1 M Q1 C1")?;
+        board.run_first(n, "V1 M Q1 C1")?;
     }
     board.end()
 }

@@ -16,7 +16,6 @@ mod script;
 mod shown;
 mod standings;
 mod windows;
-mod words;
 
 fn main(rt: HostRuntime) -> io::Result<()> {
     examples::openings(&rt)?;

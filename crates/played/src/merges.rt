@@ -2,12 +2,11 @@
 // active lane is full, a Mark makes a turn: the lane becomes the younger one, and each Mark carries two rows, the older lane's first, until the merge
 // is done. The 16th Mark of a run makes its first turn.
 use crate::board::Board;
-use history::Session;
 use std::io;
 
 // K = 1, where no mark is active at a turn: a Mark would be refused. The 16th Mark and the 33rd make turns; in their merges an equal value leaves the
 // earlier place, a lower one takes over, and there are refusals 8 to 11.
-fn one_at_a_time(board: &mut Board<'_, impl Print + Drop, Session, 639>) -> io::Result<()> {
+fn one_at_a_time(board: &mut Board<'_, impl Print + Drop, 639>) -> io::Result<()> {
     board.play_shown(5, 14)?;
     board.run("V9 M V3 V4 V3 Q15 C15")?;
     board.run("M Q18 V3 Q18 M V2 Q18 C18 Q18 Q15 M M C20 M")?;
@@ -17,7 +16,7 @@ fn one_at_a_time(board: &mut Board<'_, impl Print + Drop, Session, 639>) -> io::
 }
 
 // Turns by the 50th Mark and the 67th.
-fn more_one_at_a_time(board: &mut Board<'_, impl Print + Drop, Session, 639>) -> io::Result<()> {
+fn more_one_at_a_time(board: &mut Board<'_, impl Print + Drop, 639>) -> io::Result<()> {
     board.play_shown(5, 15)?;
     board.run("V- M Q54 V- Q54 C54 V4 M Q56 V3 Q56 M C56")?;
     board.play_shown(5, 24)?;
@@ -35,7 +34,7 @@ fn one_mark(rt: &(impl Print + Drop)) -> io::Result<()> {
 
 // K = 2. The mark at 1 lives through the turns of the 16th Mark, the 35th and the 54th. A lower value comes in each merge, an equal one leaves the earlier
 // place, and there are refusals 8 to 11.
-fn through_two_turns(board: &mut Board<'_, impl Print + Drop, Session, 703>) -> io::Result<()> {
+fn through_two_turns(board: &mut Board<'_, impl Print + Drop, 703>) -> io::Result<()> {
     board.run("V9 M")?;
     board.play_shown(8, 13)?;
     board.run("V9 M Q1 Q15 C15 V9 M Q1 Q16 V8 Q1 Q16 M V7 M Q1 Q16")?;
@@ -46,7 +45,7 @@ fn through_two_turns(board: &mut Board<'_, impl Print + Drop, Session, 703>) -> 
 }
 
 // It is closed after it was carried and before the third merge ends, and stays closed.
-fn through_a_third(board: &mut Board<'_, impl Print + Drop, Session, 703>) -> io::Result<()> {
+fn through_a_third(board: &mut Board<'_, impl Print + Drop, 703>) -> io::Result<()> {
     board.play_shown(8, 17)?;
     board.run("Q1 V9 M Q1 Q57 V5 V5 Q1 Q57 C1 Q1 C57")?;
     board.play_shown(8, 9)?;
@@ -55,7 +54,7 @@ fn through_a_third(board: &mut Board<'_, impl Print + Drop, Session, 703>) -> io
 }
 
 // The 72nd Mark fills the lane, and its mark is the last one to be carried: it is closed while it waits, and stays closed.
-fn closed_waiting(board: &mut Board<'_, impl Print + Drop, Session, 703>) -> io::Result<()> {
+fn closed_waiting(board: &mut Board<'_, impl Print + Drop, 703>) -> io::Result<()> {
     board.play_shown(8, 8)?;
     board.run("V9 M Q77 V9 M Q77 Q78 V7 V7 Q77 Q78 C77 Q77 V6 M Q78 C78")?;
     board.play_shown(8, 10)?;
@@ -64,7 +63,7 @@ fn closed_waiting(board: &mut Board<'_, impl Print + Drop, Session, 703>) -> io:
 }
 
 // The mark at 92, of the 85th Mark, is closed after it was carried and before the merge ends.
-fn closed_carried(board: &mut Board<'_, impl Print + Drop, Session, 703>) -> io::Result<()> {
+fn closed_carried(board: &mut Board<'_, impl Print + Drop, 703>) -> io::Result<()> {
     board.run("C81 V9 M")?;
     board.play_shown(8, 6)?;
     board.run("V9 M Q92 Q99 C99")?;
@@ -76,7 +75,7 @@ fn closed_carried(board: &mut Board<'_, impl Print + Drop, Session, 703>) -> io:
 }
 
 // The mark at 110, of the 102nd Mark, is asked while it waits, after it was carried, and when the merge has ended.
-fn carried(board: &mut Board<'_, impl Print + Drop, Session, 703>) -> io::Result<()> {
+fn carried(board: &mut Board<'_, impl Print + Drop, 703>) -> io::Result<()> {
     board.run("V9 M")?;
     board.play_shown(8, 8)?;
     board.run("V9 M Q110 Q119 C119")?;
@@ -90,7 +89,7 @@ fn carried(board: &mut Board<'_, impl Print + Drop, Session, 703>) -> io::Result
 }
 
 // The same mark through a further turn, of the 130th Mark: it is carried with the lower minimum of the lane between, and closed behind the merge.
-fn carried_again(board: &mut Board<'_, impl Print + Drop, Session, 703>) -> io::Result<()> {
+fn carried_again(board: &mut Board<'_, impl Print + Drop, 703>) -> io::Result<()> {
     board.play_shown(5, 9)?;
     board.run("Q110 V9 M Q110 Q140 V7 V7 M Q110 Q140 C140 M M C142 M")?;
     board.play_shown(8, 8)?;
@@ -112,7 +111,7 @@ fn two_marks(rt: &(impl Print + Drop)) -> io::Result<()> {
 
 // K = 60. Fifteen marks with 14 minima, and the 16th Mark. In the merge some are asked that were carried and some that wait; the mark at 2 is closed
 // after it was carried, that at 12 before.
-fn fifteen_and_more(board: &mut Board<'_, impl Print + Drop, Session, 4415>) -> io::Result<()> {
+fn fifteen_and_more(board: &mut Board<'_, impl Print + Drop, 4415>) -> io::Result<()> {
     board.run("V40 M V41 M V42 M V43 M V42 M V44 M V45 M V46 M V46 M V47 M")?;
     board.run("V48 M V49 M V50 M V51 M V52 M V53 M Q1 Q5 Q15 Q16")?;
     board.run("V54 M V55 M Q1 Q5 Q15 Q17 V46 Q5 Q8 Q9 Q15 Q18")?;
@@ -121,7 +120,7 @@ fn fifteen_and_more(board: &mut Board<'_, impl Print + Drop, Session, 4415>) -> 
 }
 
 // The board fills up. The 63rd Mark makes a turn with 59 active, the largest, and one more is refused.
-fn full(board: &mut Board<'_, impl Print + Drop, Session, 4415>) -> io::Result<()> {
+fn full(board: &mut Board<'_, impl Print + Drop, 4415>) -> io::Result<()> {
     board.run("V60 M V61 M V62 M V63 M V60 M V64 M V65 M V66 M V67 M V68 M")?;
     board.run("V69 M V70 M V71 M V72 M V73 M V74 M V75 M V76 M V77 M V78 M")?;
     board.run("V75 M V79 M V80 M V81 M V82 M V83 M V84 M V85 M V86 M V87 M")?;
@@ -131,7 +130,7 @@ fn full(board: &mut Board<'_, impl Print + Drop, Session, 4415>) -> io::Result<(
 
 // In its merge marks of all three lanes are asked, with minima of their own lane, of the one between and of the last; of both older lanes some are
 // closed while they wait and some after they were carried.
-fn three_lanes(board: &mut Board<'_, impl Print + Drop, Session, 4415>) -> io::Result<()> {
+fn three_lanes(board: &mut Board<'_, impl Print + Drop, 4415>) -> io::Result<()> {
     board.run("Q1 Q13 Q16 Q62 Q63 V44 Q1 Q4 Q13 Q62 Q63 C13 C62 Q13 Q62")?;
     board.run("M M V45 C65 C4 M C66 M")?;
     board.play_shown(100, 3)?;
@@ -144,7 +143,7 @@ fn three_lanes(board: &mut Board<'_, impl Print + Drop, Session, 4415>) -> io::R
 }
 
 // Many are closed, so that after the turn of the 198th Mark there is room for half of the rows that are left: the merge ends when the lane is full.
-fn half_left(board: &mut Board<'_, impl Print + Drop, Session, 4415>) -> io::Result<()> {
+fn half_left(board: &mut Board<'_, impl Print + Drop, 4415>) -> io::Result<()> {
     board.run("C3 C6 C7 C8 C9 C10 C31 C32 C33 C34 C35 C36 C37 C38 C39 C40")?;
     board.run("C41 C42 C43 C44 C45 C46 C47 C48")?;
     board.play_shown(98, 104)?;
@@ -157,7 +156,7 @@ fn half_left(board: &mut Board<'_, impl Print + Drop, Session, 4415>) -> io::Res
 }
 
 // So the 294th Mark makes a turn again. The marks at 1, 63 and 199 have lived through four turns, two and one, and are closed behind the merge.
-fn last_turn(board: &mut Board<'_, impl Print + Drop, Session, 4415>) -> io::Result<()> {
+fn last_turn(board: &mut Board<'_, impl Print + Drop, 4415>) -> io::Result<()> {
     board.run("V94 M Q1 Q63 Q199 Q297 V90 V90 Q1 Q63 Q199 Q297")?;
     board.play_shown(93, 60)?;
     board.run("Q1 Q63")?;

@@ -3,13 +3,13 @@ use crate::board::Board;
 use history::{Position, Session, Standing};
 use std::io;
 
-impl<R: Print + Drop> Board<'_, R, Session, 577> {
+impl<R: Print + Drop> Board<'_, R, 577> {
     // A refused command, lent the first n words: its reply, how many words of the area it changed, and whether it changed the session.
     fn refused(&mut self, n: usize, script: &str) -> io::Result<()> {
-        let words = *self.area;
+        let before = *self.area;
         let session = self.session;
-        self.run_on(n, script)?;
-        let changed = compare::differing(&words, self.area);
+        self.run_first(n, script)?;
+        let changed = compare::differing(&before, self.area);
         let after = if compare::is_same(session, self.session) {
             "equal"
         } else {
@@ -21,20 +21,20 @@ impl<R: Print + Drop> Board<'_, R, Session, 577> {
     // 7, 5, 8 and 11, up to one active mark.
     fn before_full(&mut self) -> io::Result<()> {
         self.refused(576, "M")?;
-        self.run_on(576, "V1")?;
+        self.run_first(576, "V1")?;
         self.refused(575, "V2")?;
         self.refused(577, "V2")?;
-        self.run_on(576, "M")?;
+        self.run_first(576, "M")?;
         self.refused(576, "M")?;
         self.refused(576, "Q2")
     }
 
     // 10, 11 and 9, from one active mark on.
     fn from_full(&mut self) -> io::Result<()> {
-        self.run_on(576, "V2")?;
+        self.run_first(576, "V2")?;
         self.refused(576, "M")?;
         self.refused(576, "C2")?;
-        self.run_on(576, "C1 M C2")?;
+        self.run_first(576, "C1 M C2")?;
         self.refused(576, "M")?;
         self.refused(576, "Q2")
     }
@@ -45,11 +45,11 @@ fn in_merge(rt: &(impl Print + Drop), area: &mut [u64; 577]) -> io::Result<()> {
     let mut board = Board::open(rt, area)?;
     board.play_shown(5, 17)?;
     board.refused(577, "M")?;
-    board.run_on(577, "V6 M")?;
-    board.refused(577, "M")?;
-    board.refused(577, "Q17")?;
-    board.refused(577, "C17")?;
-    board.run_on(577, "V7")?;
+    board.run_first(577, "V6 M")?;
+    for command in ["M", "Q17", "C17"] {
+        board.refused(577, command)?;
+    }
+    board.run_first(577, "V7")?;
     board.refused(577, "M")
 }
 
@@ -67,15 +67,15 @@ fn session_at(present: Position) -> Session {
 
 // The last position, from a session made by hand, since no run here is as long: it is reached, marked, and shown where the least value stands.
 fn to_last_position(rt: &(impl Print + Drop), area: &mut [u64; 577]) -> io::Result<()> {
-    let session = session_at(Position(4294967294));
+    let session = session_at(Position(u32::MAX - 1));
     let mut board = Board { rt, area, session };
-    board.run_on(576, "V- M Q+")?;
+    board.run_first(576, "V- M Q+")?;
     board.end()
 }
 
 // 6, in a session made by hand.
 fn at_last_position(rt: &(impl Print + Drop), area: &mut [u64; 577]) -> io::Result<()> {
-    let session = session_at(Position(4294967295));
+    let session = session_at(Position(u32::MAX));
     let mut board = Board { rt, area, session };
     board.refused(576, "V1")
 }

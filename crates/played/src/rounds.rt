@@ -17,15 +17,12 @@ fn round(s: Session, area: &mut [u64], v: i32) -> Played
 {
     let valued = engine::value(s, area, v);
     let marked = engine::mark(valued.session, area);
-    let s = marked.session;
-    let closed = engine::close(s, area, s.present);
-    let first = valued.reply;
-    let second = marked.reply;
-    let third = closed.reply;
-    let session = closed.session;
+    let closed = engine::close(marked.session, area, marked.session.present);
     Played {
-        session,
-        accepted: compare::accepted(first) + compare::accepted(second) + compare::accepted(third),
+        session: closed.session,
+        accepted: compare::accepted(valued.reply)
+            + compare::accepted(marked.reply)
+            + compare::accepted(closed.reply),
     }
 }
 

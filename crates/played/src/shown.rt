@@ -22,7 +22,7 @@ impl fmt::Display for Shown<Command> {
 impl fmt::Display for Shown<Reply> {
     fn fmt<W: fmt::Write>(&self, f: &mut fmt::Formatter<W>) -> fmt::Result {
         write!(f, "{}", history::reply_number(self.0))?;
-        if let Reply::Lowest(minimum) = self.0 {
+        if let Ok(Some(minimum)) = self.0 {
             write!(f, ", {} at {}", minimum.value, minimum.place.0)?;
         }
         Ok(())

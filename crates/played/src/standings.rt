@@ -6,7 +6,7 @@ use history::{Session, Standing};
 use std::io;
 
 // The standing that a step meets, what the step is told, and the session after it.
-fn meets(board: &mut Board<'_, impl Print + Drop, Session, 704>, step: &str) -> io::Result<()> {
+fn meets(board: &mut Board<'_, impl Print + Drop, 704>, step: &str) -> io::Result<()> {
     print!(board.rt; "{}; ", Shown(board.session.standing))?;
     board.run(step)?;
     board.end()

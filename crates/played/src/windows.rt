@@ -1,20 +1,19 @@
 // Cases of the look-ahead window of document 02, point 2, a line each: openings at the edges of W and of the words, other lengths, no opening, and the last positions.
-use crate::board::Board;
+use crate::board::{self, Board};
 use crate::shown::Shown;
-use crate::words;
 use history::Position;
 use std::io;
 use window::Window;
 
-impl<'a, R: Print + Drop, const N: usize> Board<'a, R, Window, N> {
+impl<'a, R: Print + Drop, const N: usize> Board<'a, R, N, Window> {
     // An opening of the first n words, or of all where there are fewer.
     fn open_window(
         rt: &'a R,
         area: &'a mut [u64; N],
         n: usize,
         width: usize,
-    ) -> io::Result<Board<'a, R, Window, N>> {
-        let lent = words::first(area, n);
+    ) -> io::Result<Board<'a, R, N, Window>> {
+        let lent = board::first(area, n);
         let words = lent.len();
         let answer = window::open(lent, width);
         print!(rt; "window {width} on {words}: {}; ", Shown(answer.reply))?;
@@ -27,7 +26,7 @@ impl<'a, R: Print + Drop, const N: usize> Board<'a, R, Window, N> {
 
     // A value lent the first n words, or all where there are fewer, with its reply.
     fn value(&mut self, n: usize, v: i32) -> io::Result<()> {
-        let lent = words::first(self.area, n);
+        let lent = board::first(self.area, n);
         let words = lent.len();
         let answer = window::value(self.session, lent, v);
         self.session = answer.session;
@@ -35,9 +34,9 @@ impl<'a, R: Print + Drop, const N: usize> Board<'a, R, Window, N> {
     }
 }
 
-impl<R: Print + Drop> Board<'_, R, Window, 577> {
+impl<R: Print + Drop> Board<'_, R, 577, Window> {
     // A value that is refused: its reply, how many words of the area it changed, and the session after it.
-    fn refused_value(&mut self, n: usize, v: i32) -> io::Result<()> {
+    fn refused(&mut self, n: usize, v: i32) -> io::Result<()> {
         let before = *self.area;
         self.value(n, v)?;
         print!(self.rt;
@@ -78,11 +77,11 @@ fn openings(rt: &(impl Print + Drop)) -> io::Result<()> {
 fn other_lengths(rt: &(impl Print + Drop), area: &mut [u64; 577]) -> io::Result<()> {
     let mut board = Board::open_window(rt, area, 4, 2)?;
     board.value(4, 3)?;
-    board.refused_value(5, -9)?;
-    board.refused_value(3, -9)?;
+    board.refused(5, -9)?;
+    board.refused(3, -9)?;
     board.value(4, 1)?;
-    board.refused_value(0, -9)?;
-    board.refused_value(577, -9)?;
+    board.refused(0, -9)?;
+    board.refused(577, -9)?;
     board.value(4, 2)?;
     board.value(4, 2)?;
     board.end_changed(4)
@@ -92,7 +91,7 @@ fn other_lengths(rt: &(impl Print + Drop), area: &mut [u64; 577]) -> io::Result<
 fn unopened(rt: &(impl Print + Drop), area: &mut [u64; 577]) -> io::Result<()> {
     let mut board = Board::open_window(rt, area, 5, 3)?;
     for (n, v) in [(5, 1), (6, 2), (0, 3)] {
-        board.refused_value(n, v)?;
+        board.refused(n, v)?;
     }
     board.end()
 }
@@ -101,12 +100,12 @@ fn unopened(rt: &(impl Print + Drop), area: &mut [u64; 577]) -> io::Result<()> {
 fn last_positions(rt: &(impl Print + Drop), area: &mut [u64; 577]) -> io::Result<()> {
     let mut board = Board::open_window(rt, area, 2, 1)?;
     board.session = Window {
-        present: Position(4294967294),
+        present: Position(u32::MAX - 1),
         ..board.session
     };
     board.value(2, i32::MIN)?;
-    board.refused_value(2, 1)?;
-    board.refused_value(3, 1)?;
+    board.refused(2, 1)?;
+    board.refused(3, 1)?;
     board.end()
 }
 
