@@ -1,4 +1,5 @@
-// Searches among numbered things by halves, of which a caller's test says one by one on which side the sought place is. Nothing here knows what is searched.
+// Searches among numbered things by halves, of which a caller's test says one by one on which side the sought place is. Nothing here knows what is searched. The two `while` loops stay: they count
+// no index, and what is left is halved, which no iterator says; std's `partition_point` wants a slice, and the things here stand apart.
 #![tactic(auto)]
 
 ghost use Rattle.std.specs.Prelude.{◌≡◌, true, false, ℕ, ◌+◌, ◌<◌, ◌≤◌};

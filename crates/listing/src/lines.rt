@@ -59,7 +59,7 @@ pub fn index(page: &mut Page<'_>, entries: &[i32])
     page.put(b"\n");
 }
 
-// The running number of the n-th request, which has no more than five digits, and a text behind it.
+// The running number of the n-th request, which has no more than five digits, and a text behind it. The lines of requests share this and no more: what stands behind it differs.
 #[tactic(auto, using(crate::proofs::Texts::number_few))]
 fn begin(page: &mut Page<'_>, n: usize, text: &[u8])
     requires number { n < 100000 }

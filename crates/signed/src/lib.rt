@@ -1,5 +1,5 @@
 // A signed value of 32 bits and its other forms. As a word of the area it is offset by 2 ^ 31, so that every value, both ends with it, has a word
-// of its own. As an unsigned number of 32 bits it is its two's complement.
+// of its own. As an unsigned number of 32 bits it is its two's complement. These are functions and no `From`, since both types are the library's.
 #![tactic(auto)]
 
 ghost use Rattle.std.specs.Prelude.{◌≡◌, nat_abs};
