@@ -144,11 +144,6 @@ reached_start values before bytes start page l most = record {
   fits = omega arith;
 }
 
--- with one behind, how many were read is below what there may be
-pub reached_few : {values before index : List ℤ} {all behind rest : List Request} {page written : Page} {read : ℕ} (request : Request)
-    → Reached values before all behind index page written read → behind ≡ request ∷ rest → read + 1 ≤ 5040
-reached_few {behind = behind} request u e = omega (arith, u.few, ap length u.reads, length-append u.requests behind, ap length e, u.count)
-
 -- one request more
 pub reached_more : {values before index after : List ℤ} {all behind rest : List Request} {page written printed : Page} {read : ℕ} {request : Request}
     → Reached values before all behind index page written read → behind ≡ request ∷ rest

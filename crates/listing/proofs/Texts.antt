@@ -6,7 +6,7 @@ use native.Mathlib.Numerals.{add-one}
 use native.Mathlib.Omega.{arith}
 use lib.IntN.{ℤ, pos}
 use lib.ListN.{length, take, get_or}
-use lib.Seq.{take-suc, take_all}
+use lib.Seq.{take-suc}
 use borrow.Author.Tests.{eq-eqb, ne_eqb}
 use Rattle.std.specs.Prelude.{Result, Ok, Err}
 use Rattle.history.specs.declared.Refusal.{Refusal}
@@ -27,10 +27,6 @@ values_append (x ∷ xs) v = ap (λ (t : List ℕ). value_text x ++ t) (values_a
 -- the first i of them, and the next
 pub values_next : (vs : List ℤ) (i : ℕ) → i < length vs → values_text (take (i + 1) vs) ≡ values_text (take i vs) ++ value_text (get_or vs i (pos 0))
 values_next vs i l = rw (add-one i, take-suc vs i (pos 0) l) (values_append (take i vs) (get_or vs i (pos 0)))
-
--- and all of them
-pub values_all : (vs : List ℤ) (i : ℕ) → length vs ≤ i → values_text (take i vs) ≡ values_text vs
-values_all vs i l = ap values_text (take_all i vs l)
 
 -- the first and the last of some values, where there are any
 pub ends_none : (part : List ℤ) → length part ≡ 0 → ends_text part ≡ []
