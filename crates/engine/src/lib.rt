@@ -1,5 +1,5 @@
 // The level engine: an opening and the four commands of source document 000, over words that the caller lends.
-// The session goes in with each call and a new one comes out; all else that outlives a call is in the words. No struct holds both: each call may be lent other words, and C passes them so.
+// The session goes in with each call and a new one comes out; all else that outlives a call is in the words. No struct holds both: each call may be lent other words.
 #![tactic(auto)]
 
 ghost use Rattle.std.specs.Prelude.{◌≡◌, ◌<◌, length};
@@ -11,7 +11,7 @@ ghost use Rattle.engine.specs.Private.{answered, shown, Within};
 
 use history::{Answer, Command, Event, Minimum, Position, Refusal, Session, Standing};
 
-// A session with no opening: all its numbers are 0.
+// A session with no opening: all its numbers are 0, as document 01 has it ("unopened just when its N is 0").
 const UNOPENED: Session = Session {
     words: 0,
     limit: 0,

@@ -112,7 +112,7 @@ pub fn header(role: Role) -> usize
     }
 }
 
-// The lane of a role as the header has it; of fewer words than a header's, an empty one.
+// The lane of a role as the header has it; of fewer words than a header's, an empty one, so that nothing is asked of a caller.
 pub fn read(area: &[u64], role: Role) -> Extent
     ensures { Read area.now role result }
 {

@@ -3,6 +3,7 @@
 // What each call answers is printed, and the file `stdout` beside this folder says what the documents have it answer, as tests/played.py works it out, and tests/standings.py of the standings.
 #![tactic(auto)]
 
+use output::Output;
 use std::io;
 
 mod board;
@@ -10,6 +11,7 @@ mod bytes;
 mod edges;
 mod examples;
 mod merges;
+mod output;
 mod refusals;
 mod rounds;
 mod script;
@@ -17,13 +19,17 @@ mod shown;
 mod standings;
 mod windows;
 
-fn main(rt: HostRuntime) -> io::Result<()> {
-    examples::openings(&rt)?;
-    examples::sequences(&rt)?;
-    bytes::sequences(&rt)?;
-    edges::sequences(&rt)?;
-    merges::sequences(&rt)?;
-    refusals::sequences(&rt)?;
-    standings::sequences(&rt)?;
-    windows::sequences(&rt)
+fn all(rt: &(impl Print + Drop)) -> io::Result<()> {
+    examples::openings(rt)?;
+    examples::sequences(rt)?;
+    bytes::sequences(rt)?;
+    edges::sequences(rt)?;
+    merges::sequences(rt)?;
+    refusals::sequences(rt)?;
+    standings::sequences(rt)?;
+    windows::sequences(rt)
+}
+
+fn main() {
+    let _ = all(&Output);
 }

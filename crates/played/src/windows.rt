@@ -5,6 +5,7 @@ use history::Position;
 use std::io;
 use window::Window;
 
+// What `open_first`, `apply` and `refused` are of the engine. Each calls another crate, by other arguments, and prints another line: a trait over both would be longer, and no plainer.
 impl<'a, R: Print + Drop, const N: usize> Board<'a, R, N, Window> {
     // An opening of the first n words, or of all where there are fewer.
     fn open_window(

@@ -32,7 +32,7 @@ fn active_mark(p: Position) -> u64
     2 * (p.0 as u64) + 1
 }
 
-// 1 of a mark that is not after the one sought, else 0.
+// 1 of a mark that is not after the one sought, else 0: a number, as `halves::last_where` wants it.
 fn not_after(mark: u64, sought: u64) -> usize
     ensures { result ≡ not_after mark sought }
 {

@@ -19,7 +19,7 @@ pub struct Window {
     pub present: Position,
 }
 
-// A session with no opening: all its numbers are 0.
+// A session with no opening: all its numbers are 0, as the papers have it, and C.
 const UNOPENED: Window = Window {
     words: 0,
     width: 0,
