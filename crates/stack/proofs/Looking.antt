@@ -1,7 +1,7 @@
 -- What a look at the place whose run has a row says of the row's word: the stack has only one, and it is that place's entry.
-use mathlib.Core.Path.{refl, ap, ◌∙◌}
+use mathlib.Core.Path.{ap, ◌∙◌}
 use mathlib.Core.List.{List}
-use Rattle.std.specs.Prelude.{Option, None, Some}
+use Rattle.std.specs.Prelude.{Option, Some}
 use Prim.Native.Nat.{ℕ}
 use native.Mathlib.Omega.{arith}
 use Rattle.layout.specs.declared.Held.{Held}
@@ -11,7 +11,6 @@ use Rattle.layout.specs.Words.{Room}
 use Rattle.stack.specs.Calls.{Entered, Looked}
 use Rattle.stack.specs.Private.{Located}
 use Rattle.stack.proofs.Runs.{covers_rests, rests_unique}
-use Rattle.stack.proofs.Rooms.{room_below}
 
 -- the entry at the row's place is its word
 pub seen : {w : List ℕ} {k : Lane} {height t : Place} {h : Held} {r : Option ℕ} → Room w height.0 → Located w k height h t → Entered w k height t r → Looked w k height h r

@@ -1,5 +1,5 @@
 -- The contracts of the stack's private functions.
-use Rattle.std.specs.Prelude.{Bool, List, ℕ, cond, leb, ltb, ◌%◌, ◌<◌, ◌≤◌}
+use Rattle.std.specs.Prelude.{Bool, List, ℕ, ltb, ◌<◌, ◌≤◌}
 use Rattle.layout.specs.declared.Held.{Held}
 use Rattle.layout.specs.declared.Place.{Place}
 use Rattle.layout.specs.declared.Lane.{Lane}
@@ -15,13 +15,9 @@ pub record Parted (w : List ℕ) (k : Lane) (height : Place) (x : ℕ) (r : Plac
   pub within : r.0 ≤ height.0
   pub right : Ascending w k height → Parts w k height x r
 
--- `starts_by`: 1 of a run that starts at the row or below it, else 0
-abbrev pub starts_by : Held → Held → ℕ
-starts_by first row = cond (leb first.0 row.0) 1 0
-
--- the same of the run at place n, whose first row counts by its remainder
-abbrev pub run_starts_by : List ℕ → Lane → Held → ℕ → ℕ
-run_starts_by w k row n = starts_by (record { 0 = word w k n 5 % 65536 }) row
+-- whether the run at place n starts after row h
+abbrev pub starts_after : List ℕ → Lane → ℕ → ℕ → Bool
+starts_after w k h n = ltb h (word w k n 5)
 
 -- `covering`: a place below the height where there is one, which in a stack is that of the run that has row h
 pub record Located (w : List ℕ) (k : Lane) (height : Place) (h : Held) (r : Place) : Type 0 where

@@ -4,7 +4,7 @@
 ghost use Rattle.std.specs.Prelude.{◌≡◌, ◌+◌, ◌<◌};
 ghost use Rattle.layout.specs.Words.{Room};
 ghost use Rattle.stack.specs.Calls.{Lowered, Pushed, Entered, Looked, Advanced};
-ghost use Rattle.stack.specs.Private.{is_above, Parted, starts_by, run_starts_by, Located};
+ghost use Rattle.stack.specs.Private.{is_above, Parted, starts_after, Located};
 
 use layout::{Extent, Held, Place};
 
@@ -96,29 +96,21 @@ pub fn advance(area: &[u64], e: Extent, place: Place, row: Held) -> Place
     next
 }
 
-// 1 of a run that starts at the row or below it, else 0. It is arithmetic because a branch would be guessed wrong every other time.
-fn starts_by(first: Held, row: Held) -> usize
-    requires { (first.0 < 65536) × (row.0 < 65536) }
-    ensures { result ≡ starts_by first row }
-{
-    (65536 + row.0 - first.0) / 65536
-}
-
-// The place whose run has a row: a predecessor search over the runs' first rows (source document 000, Theorem 3). No lane has 65,536
-// rows, so the remainders alter nothing of a stack's rows; of other contents they keep the numbers small.
+// The place whose run has a row: a predecessor search over the runs' first rows (source document 000, Theorem 3). It is the one before the first run that starts after the row.
 fn covering(area: &[u64], e: Extent, held: Held) -> Place
     requires { Room area.now e.height.0 }
     ensures { Located area.now e.lane e.height held result }
 {
     let lane = e.lane;
-    let row = Held(held.0 % 65536);
-    Place(halves::last_where(
+    let row = held.0 as u64;
+    let behind = halves::first_where(
         e.height.0,
-        |k: usize| -> usize
-            requires { Room area.now (k + 1) × (row.0 < 65536) }
-            ensures { result ≡ run_starts_by area.entry.now lane row k }
-        { starts_by(Held(area[lane.first(Place(k))] as usize % 65536), row) },
-    ))
+        |k: usize| -> bool
+            requires { Room area.now (k + 1) }
+            ensures { result ≡ starts_after area.entry.now lane row k }
+        { row < area[lane.first(Place(k))] },
+    );
+    Place(behind.saturating_sub(1))
 }
 
 // The minimum that the stack has for a row, as a word.

@@ -1,31 +1,32 @@
--- A search by halves among rows whose positions ascend: of the row found the mark is not after the one sought, and of the next one it is. So no other row has the mark sought.
+-- A search by halves among rows whose positions ascend: of the row found the mark is the first that is after the one sought. So only the row before it can have the mark sought.
 use mathlib.Core.Path.{◌≡◌}
+use mathlib.Core.Bool.{true, false}
 use mathlib.Core.List.{List}
-use Prim.Native.Nat.{ℕ, ◌+◌, ◌<◌, ◌≤◌}
+use Prim.Native.Nat.{ℕ, ◌+◌, ◌-◌, ◌<◌, ◌≤◌}
 use native.Mathlib.Decide.{ℕ_discrete, dec_lt}
 use native.Mathlib.Omega.{arith}
+use Rattle.std.specs.Prelude.{ltb}
 use Rattle.std.proofs.lemmas.Bool.Decides.{nat_tests}
 use Rattle.layout.specs.declared.Lane.{Lane}
 use Rattle.layout.specs.Words.{base_of, word}
-use Rattle.table.specs.Private.{not_after, row_not_after}
+use Rattle.table.specs.Private.{is_after}
 use Rattle.table.proofs.Ordered.{Ascending, upto, before}
 
 -- what the test says of a mark
-early : (mark sought : ℕ) → 1 ≡ not_after mark sought → mark ≤ sought
-early mark sought e = grind (arith, nat_tests)
-
-late : (mark sought : ℕ) → 0 ≡ not_after mark sought → sought < mark
+late : (mark sought : ℕ) → true ≡ ltb sought mark → sought < mark
 late mark sought e = grind (arith, nat_tests)
 
-pub missed : (w : List ℕ) (k : Lane) {sought rows low : ℕ} → (0 < rows → low < rows) → (0 < low → 1 ≡ row_not_after w k sought low)
-    → (low + 1 < rows → 0 ≡ row_not_after w k sought (low + 1)) → (word w k low 1 ≡ sought → ⊥)
-    → Ascending w (base_of k) rows → (h : ℕ) → h < rows → word w k h 1 ≡ sought → ⊥
-missed w k {sought} {rows} {low} within here behind n up h m e =
-    let above : h ≤ low = elim (dec_lt low h) [
-      | yes l ↦ absurd (let b = before w (base_of k) rows up h (low + 1) m (omega (arith, e, late _ _ (behind (omega arith)))) in omega arith)
+early : (mark sought : ℕ) → false ≡ ltb sought mark → mark ≤ sought
+early mark sought e = grind (arith, nat_tests)
+
+pub missed : (w : List ℕ) (k : Lane) {sought rows n : ℕ} → (n < rows → true ≡ is_after w k sought n) → ((i : ℕ) → i + 1 ≡ n → false ≡ is_after w k sought i)
+    → n ≤ rows → (word w k (n - 1) 1 ≡ sought → ⊥) → Ascending w (base_of k) rows → (h : ℕ) → h < rows → word w k h 1 ≡ sought → ⊥
+missed w k {sought} {rows} {n} here behind within other up h m e =
+    let above : h < n = elim (dec_lt n rows) [
+      | yes l ↦ before w (base_of k) rows up h n m (omega (arith, e, late _ _ (here l)))
       | no l ↦ omega arith
     ] in
-    elim (ℕ_discrete h low) [
-      | yes q ↦ n (rw q at e)
-      | no d ↦ let b = upto w (base_of k) rows up low h (within (omega arith)) (omega (arith, e, early _ _ (here (omega arith)))) in omega arith
+    elim (ℕ_discrete h (n - 1)) [
+      | yes q ↦ other (rw q at e)
+      | no d ↦ let b = upto w (base_of k) rows up (n - 1) h (omega arith) (omega (arith, e, early _ _ (behind (n - 1) (omega arith)))) in omega arith
     ]

@@ -1,18 +1,14 @@
 -- The contracts of the table's private functions.
-use Rattle.std.specs.Prelude.{◌≡◌, List, ℕ, Option, Some, cond, leb}
+use Rattle.std.specs.Prelude.{◌≡◌, Bool, List, ℕ, Option, Some, ltb}
 use Rattle.history.specs.declared.Position.{Position}
 use Rattle.layout.specs.declared.Held.{Held}
 use Rattle.layout.specs.declared.Lane.{Lane}
 use Rattle.layout.specs.Words.{word, link}
 use Rattle.table.specs.Marks.{Chain, Rising, Live}
 
--- `not_after`: 1 of a mark that is not after the one sought, else 0
-abbrev pub not_after : ℕ → ℕ → ℕ
-not_after mark sought = cond (leb mark sought) 1 0
-
--- the same of row n's mark
-abbrev pub row_not_after : List ℕ → Lane → ℕ → ℕ → ℕ
-row_not_after w k sought n = not_after (word w k n 1) sought
+-- whether row n's mark is after the one sought
+abbrev pub is_after : List ℕ → Lane → ℕ → ℕ → Bool
+is_after w k sought n = ltb sought (word w k n 1)
 
 -- `by_halves`: what it finds is an active mark at p, and among rising positions it finds each
 pub record Halved (w : List ℕ) (k : Lane) (rows : Held) (p : Position) (r : Option Held) : Type 0 where

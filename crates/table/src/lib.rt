@@ -6,7 +6,7 @@ ghost use Rattle.std.specs.Prelude.{◌≡◌, ◌+◌, ◌*◌, ◌<◌, ◌≤
 ghost use Rattle.layout.specs.Words.{Room};
 ghost use Rattle.table.specs.Marks.{bucket_of};
 ghost use Rattle.table.specs.Calls.{Sought, Inserted, Released};
-ghost use Rattle.table.specs.Private.{not_after, row_not_after, Halved, Walked};
+ghost use Rattle.table.specs.Private.{is_after, Halved, Walked};
 
 use history::Position;
 use layout::{Extent, Held};
@@ -29,30 +29,24 @@ fn bucket(p: Position, capacity: Held) -> usize
 fn active_mark(p: Position) -> u64
     ensures { result ≡ 2 * p.0 + 1 }
 {
-    2 * (p.0 as u64) + 1
+    2 * u64::from(p.0) + 1
 }
 
-// 1 of a mark that is not after the one sought, else 0: a number, as `halves::last_where` wants it.
-fn not_after(mark: u64, sought: u64) -> usize
-    ensures { result ≡ not_after mark sought }
-{
-    (mark <= sought) as usize
-}
-
-// The row of the active mark at a position by halves: the rows are in the order of their positions.
+// The row of the active mark at a position by halves: the rows are in the order of their positions, and it is the one before the first whose mark is after the one sought.
 fn by_halves(area: &[u64], e: Extent, p: Position) -> Option<Held>
     requires { (0 < e.rows.0) × Room area.now e.rows.0 }
     ensures { Halved area.now e.lane e.rows p result }
 {
     let lane = e.lane;
     let sought = active_mark(p);
-    let held = Held(halves::last_where(
+    let behind = halves::first_where(
         e.rows.0,
-        |n: usize| -> usize
+        |n: usize| -> bool
             requires { Room area.now (n + 1) }
-            ensures { result ≡ row_not_after area.entry.now lane sought n }
-        { not_after(area[lane.mark(Held(n))], sought) },
-    ));
+            ensures { result ≡ is_after area.entry.now lane sought n }
+        { sought < area[lane.mark(Held(n))] },
+    );
+    let held = Held(behind.saturating_sub(1));
     if area[lane.mark(held)] == sought {
         return Some(held);
     }
