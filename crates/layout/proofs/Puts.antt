@@ -9,7 +9,12 @@ use lib.Dec.{eqb, ltb}
 use lib.ListN.{length, get_or, set, length-set}
 use lib.Seq.{get_or-set_same, get_or-set_other}
 use borrow.Author.Tests.{eq-eqb, ne_eqb, ltb-true}
-use Rattle.layout.specs.Words.{Put, puts}
+use Rattle.layout.specs.declared.Held.{Held}
+use Rattle.layout.specs.declared.Place.{Place}
+use Rattle.layout.specs.declared.Role.{Role}
+use Rattle.layout.specs.declared.Role.TheVariants.{Active, Younger, Older, Next}
+use Rattle.layout.specs.declared.Extent.{Extent}
+use Rattle.layout.specs.Words.{Put, puts, extent_puts, left_puts}
 use Rattle.layout.specs.Frames.{SameLanes}
 use Rattle.layout.proofs.Written.{wrote_header, lanes_then, lanes_stay}
 
@@ -22,6 +27,20 @@ reading (p ∷ ps) j y = reading ps j (cond (eqb j p.at) p.to y)
 abbrev pub in_header : List Put → Bool
 in_header [] = true
 in_header (p ∷ ps) = ltb p.at 32 && in_header ps
+
+-- the words of an extent are, of whatever role
+pub extent_in_header : (r : Role) (e : Extent) → in_header (extent_puts r e) ≡ true
+extent_in_header Active e = refl
+extent_in_header Younger e = refl
+extent_in_header Older e = refl
+extent_in_header Next e = refl
+
+-- so are those of the next row and its run
+pub left_in_header : (r : Role) (h : Held) (t : Place) → in_header (left_puts r h t) ≡ true
+left_in_header Active h t = refl
+left_in_header Younger h t = refl
+left_in_header Older h t = refl
+left_in_header Next h t = refl
 
 -- one word
 put_reads : (w : List ℕ) (i j x : ℕ) → i < length w → get_or (set w i x) j 0 ≡ cond (eqb j i) x (get_or w j 0)

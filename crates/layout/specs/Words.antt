@@ -58,6 +58,10 @@ left_of w r = record { 0 = get_or w (header_of r + 5) 0 }
 abbrev pub run_of : List ℕ → Role → Place
 run_of w r = record { 0 = get_or w (header_of r + 6) 0 }
 
+-- a lane with no rows, and room for so many
+abbrev pub emptied : Lane → Held → Extent
+emptied k capacity = record { lane = k; rows = record { 0 = 0 }; capacity = capacity; height = record { 0 = 0 } }
+
 -- no rows, and room for none
 abbrev pub empty : Extent
 empty = record { lane = record { 0 = 0 }; rows = record { 0 = 0 }; capacity = record { 0 = 0 }; height = record { 0 = 0 } }
@@ -70,6 +74,19 @@ pub record Put : Type 0 where
 abbrev pub puts : List Put → List ℕ → List ℕ
 puts [] w = w
 puts (p ∷ ps) w = puts ps (set w p.at p.to)
+
+-- the words of a role that an extent has
+abbrev pub extent_puts : Role → Extent → List Put
+extent_puts r e =
+    record { at = header_of r; to = e.lane.0 } ∷ record { at = header_of r + 1; to = e.rows.0 } ∷ record { at = header_of r + 2; to = e.capacity.0 } ∷ record { at = header_of r + 3; to = e.height.0 }
+    ∷ []
+
+-- the word of where a role's lane starts, and those of the next row that is carried and its run
+abbrev pub start_puts : Role → Position → List Put
+start_puts r p = record { at = header_of r + 4; to = p.0 } ∷ []
+
+abbrev pub left_puts : Role → Held → Place → List Put
+left_puts r h t = record { at = header_of r + 5; to = h.0 } ∷ record { at = header_of r + 6; to = t.0 } ∷ []
 
 -- THE LANES: where the words of a lane start, and word f of its row n
 abbrev pub base_of : Lane → ℕ

@@ -5,9 +5,12 @@
 // the younger lane), and the next row that is carried into the next lane, with its run (5 and 6: of the younger and the older one).
 #![tactic(auto)]
 
-ghost use Rattle.std.specs.Prelude.{◌≡◌, ◌+◌, ◌*◌, ◌<◌, ◌≤◌};
-ghost use Rattle.layout.specs.Words.{header_of, base_of};
+ghost use Rattle.std.specs.Prelude.{◌≡◌, ◌+◌, ◌*◌, ◌<◌, ◌≤◌, length};
+ghost use Rattle.layout.specs.Words.{header_of, emptied, puts, extent_puts, left_puts, base_of};
 ghost use Rattle.layout.specs.Calls.{Read, Roomy};
+
+// The words of the header: 8 for each role.
+pub const HEADER: usize = 32;
 
 // The most marks that an area is opened for, whatever its length.
 pub const MOST_MARKS: usize = 4096;
@@ -41,6 +44,8 @@ pub enum Role {
 
 // A lane, how many rows are in use, how many there is room for, and how high its stack is.
 // All that outlives a call stands in the words that the caller lends: so lists are numbers of rows beside words there, and links are numbers of rows.
+// The words stay a parameter of their own beside it, in `stack`, `table` and `ranges`: they are the caller's. A struct over both was tried: each method that writes then owes a clause
+// that the words are the same ones still.
 #[derive(Clone, Copy)]
 pub struct Extent {
     pub lane: Lane,
@@ -49,8 +54,21 @@ pub struct Extent {
     pub height: Place,
 }
 
-// Where the words of a lane's rows stand.
+// Where the words of a lane's rows stand. That a row, a place or a bucket is at most 8,207 is asked at each: rows and heights come from words of any content, and `has_room` tests
+// them once for a call; a type that has the bound would be made, and tested, row by row.
 impl Lane {
+    // The lane with no rows, and room for so many.
+    pub fn empty(self, capacity: Held) -> Extent
+        ensures { result ≡ emptied self capacity }
+    {
+        Extent {
+            lane: self,
+            rows: Held(0),
+            capacity,
+            height: Place(0),
+        }
+    }
+
     // Word f of a row, place or bucket.
     fn word(self, row: usize, f: usize) -> usize
         requires { (row ≤ 8207) × (f < 8) }
@@ -100,15 +118,69 @@ impl Lane {
     }
 }
 
-// Where a role's header words start.
-pub fn header(role: Role) -> usize
-    ensures { (result ≡ header_of role) × (result ≤ 24) }
-{
-    match role {
-        Role::Active => 0,
-        Role::Younger => 8,
-        Role::Older => 16,
-        Role::Next => 24,
+// Where the words of a role stand in the header.
+impl Role {
+    // Word f of a role.
+    fn word(self, f: usize) -> usize
+        requires { f < 8 }
+        ensures { (result ≡ header_of self + f) × (result < 32) }
+    {
+        let at = match self {
+            Role::Active => 0,
+            Role::Younger => 8,
+            Role::Older => 16,
+            Role::Next => 24,
+        };
+        at + f
+    }
+
+    // The number of the lane that has it.
+    pub fn lane(self) -> usize
+        ensures { (result ≡ header_of self) × (result ≤ 24) }
+    {
+        self.word(0)
+    }
+
+    // How many rows are in use.
+    pub fn rows(self) -> usize
+        ensures { (result ≡ header_of self + 1) × (result < 32) }
+    {
+        self.word(1)
+    }
+
+    // How many rows there is room for.
+    pub fn capacity(self) -> usize
+        ensures { (result ≡ header_of self + 2) × (result < 32) }
+    {
+        self.word(2)
+    }
+
+    // How high the stack is.
+    pub fn height(self) -> usize
+        ensures { (result ≡ header_of self + 3) × (result < 32) }
+    {
+        self.word(3)
+    }
+
+    // The position that the lane starts at: of the active and the younger one.
+    pub fn start(self) -> usize
+        ensures { (result ≡ header_of self + 4) × (result < 32) }
+    {
+        self.word(4)
+    }
+
+    // The next row that is carried into the next lane: of the younger and the older one.
+    pub fn left(self) -> usize
+        ensures { (result ≡ header_of self + 5) × (result < 32) }
+    {
+        self.word(5)
+    }
+
+    // The run that has this row.
+    pub fn run(self) -> usize
+        ensures { (result ≡ header_of self + 6) × (result < 32) }
+    {
+        self.word(6)
     }
 }
 
@@ -116,21 +188,35 @@ pub fn header(role: Role) -> usize
 pub fn read(area: &[u64], role: Role) -> Extent
     ensures { Read area.now role result }
 {
-    if area.len() < 32 {
-        return Extent {
-            lane: Lane(0),
-            rows: Held(0),
-            capacity: Held(0),
-            height: Place(0),
-        };
+    if area.len() < HEADER {
+        return Lane(0).empty(Held(0));
     }
-    let at = header(role);
     Extent {
-        lane: Lane(area[at] as usize),
-        rows: Held(area[at + 1] as usize),
-        capacity: Held(area[at + 2] as usize),
-        height: Place(area[at + 3] as usize),
+        lane: Lane(area[role.lane()] as usize),
+        rows: Held(area[role.rows()] as usize),
+        capacity: Held(area[role.capacity()] as usize),
+        height: Place(area[role.height()] as usize),
     }
+}
+
+// The header has a lane for a role.
+pub fn write(area: &mut [u64], role: Role, e: Extent)
+    requires { 32 ≤ length area.old }
+    ensures { area.new ≡ puts (extent_puts role e) area.old }
+{
+    area[role.lane()] = e.lane.0 as u64;
+    area[role.rows()] = e.rows.0 as u64;
+    area[role.capacity()] = e.capacity.0 as u64;
+    area[role.height()] = e.height.0 as u64;
+}
+
+// The header has the next row of a role's lane that is carried, and its run.
+pub fn write_left(area: &mut [u64], role: Role, left: Held, run: Place)
+    requires { 32 ≤ length area.old }
+    ensures { area.new ≡ puts (left_puts role left run) area.old }
+{
+    area[role.left()] = left.0 as u64;
+    area[role.run()] = run.0 as u64;
 }
 
 // Whether the words have room for so many rows of each lane.
@@ -140,7 +226,7 @@ pub fn has_room(area: &[u64], rows: usize) -> bool
     if MOST_ROWS < rows {
         return false;
     }
-    if area.len() < 32 + 32 * rows {
+    if area.len() < HEADER + 32 * rows {
         return false;
     }
     true

@@ -1,12 +1,11 @@
 -- Whatever the words hold: no call changes their number, or a word from 262,656 on.
 use mathlib.Core.Path.{◌≡◌, refl, sym, subst, ◌∙◌}
 use mathlib.Core.Bool.{Bool}
-use mathlib.Core.List.{List, [], ◌∷◌}
+use mathlib.Core.List.{List}
 use mathlib.Core.Logic.{◌⊎◌, inl, inr, ⊎_elim}
 use native.Mathlib.Decide.{ℕ_discrete, dec_lt}
-use Prim.Native.Nat.{ℕ, ◌+◌, ◌%◌, ◌<◌, ◌≤◌}
+use Prim.Native.Nat.{ℕ, ◌%◌, ◌≤◌}
 use native.Mathlib.Omega.{arith}
-use lib.ListN.{set}
 use Rattle.std.specs.Prelude.{Option, None, Some}
 use Rattle.history.specs.declared.Position.{Position}
 use Rattle.layout.specs.declared.Held.{Held}
@@ -14,15 +13,14 @@ use Rattle.layout.specs.declared.Lane.{Lane}
 use Rattle.layout.specs.declared.Extent.{Extent}
 use Rattle.layout.specs.declared.Role.{Role}
 use Rattle.layout.specs.declared.Role.TheVariants.{Active, Younger, Older, Next}
-use Rattle.layout.specs.Words.{mark_word, header_of, extent_of, left_of, run_of, Room}
+use Rattle.layout.specs.Words.{after, mark_word, extent_of, left_of, run_of, Room, extent_puts, left_puts}
 use Rattle.layout.specs.Frames.{Kind, SameLanes, Within}
-use Rattle.layout.proofs.Written.{wrote_header, lanes_then}
-use Rattle.layout.proofs.Puts.{puts_lanes}
+use Rattle.layout.proofs.Puts.{extent_in_header, left_in_header, puts_lanes}
 use Rattle.table.specs.Calls.{Released}
 use Rattle.table.proofs.Closing.{release_within}
 use Rattle.stack.proofs.Rooms.{room_or_not}
 use Rattle.ranges.specs.Calls.{Inside}
-use Rattle.ranges.specs.Private.{ClosedNext, Appended, Carried, Step, Stepped, Merged, finishing, Finished, turning, Turns, Turned, Shared}
+use Rattle.ranges.specs.Private.{ClosedNext, Appended, Joined, Carried, Step, Stepped, Merged, finishing, Finished, turning, Turns, Turned, Shared}
 
 -- nothing is done, and one thing after another
 pub nothing_done : {w v : List ℕ} → v ≡ w → Inside w v
@@ -39,7 +37,7 @@ header_inside s = record { long = s.long; beyond = λ i l. s.words i (omega arit
 pub within_inside : {written : Kind → Bool} {k : Lane} {end : Held} {w v : List ℕ} → Within written k end w v → end.0 ≤ 8207 → Inside w v
 within_inside a l = record { long = a.long; beyond = λ i b. a.beyond i (omega arith) }
 
-pub appended_inside : {w v : List ℕ} {e r : Extent} {p : Position} {x : ℕ} → Appended w v e p x r → Inside w v
+appended_inside : {w v : List ℕ} {e r : Extent} {p : Position} {x : ℕ} → Appended w v e p x r → Inside w v
 appended_inside {w} {e = e} a = ⊎_elim
     (λ (r : Room w e.capacity.0). within_inside a.within r.few)
     (λ (n : Room w e.capacity.0 → ⊥). nothing_done (a.idle (λ s. n s.room)).0)
@@ -61,31 +59,25 @@ next_inside {w} {v} q = go q.found refl
     go (Some g) z = released_inside (extent_of w Next).lane (extent_of w Next).rows g (q.closed g z)
     go None z = nothing_done (q.lost z)
 
+pub joined_inside : {w v : List ℕ} {role : Role} {p : Position} {x : ℕ} → Joined w v role p x → Inside w v
+joined_inside {w} {role = role} a = subst (Inside w) (sym a.done) (done_then (appended_inside a.appended) (header_inside (puts_lanes (extent_puts role a.grown) a.words (extent_in_header role a.grown))))
+
 carried_inside : {w v : List ℕ} {e : Extent} {h : Held} {x : ℕ} → Carried w v e h x → Inside w v
 carried_inside {w} {v} {e} {h} a = ⊎_elim
     (λ (r : Room w e.rows.0). elim (dec_lt h.0 e.rows.0) [
       | yes l ↦ elim (ℕ_discrete (mark_word w e.lane h % 2) 0) [
         | yes c ↦ nothing_done (a.closed c)
-        | no c ↦ let t = a.active r l c in subst (Inside w) (sym t.3) (done_then (appended_inside t.2) (header_inside (puts_lanes (record { at = 25; to = t.1.rows.0 } ∷ record { at = 27; to = t.1.height.0 } ∷ []) t.0 refl)))
+        | no c ↦ joined_inside (a.active r l c)
       ]
       | no l ↦ nothing_done (a.idle (λ r₁ b. l b))
     ])
     (λ (n : Room w e.rows.0 → ⊥). nothing_done (a.idle (λ r b. n r)))
     (room_or_not w e.rows.0)
 
--- the words of a role's cursor are in the header
-cursor : (role : Role) → header_of role + 6 < 32
-cursor Active = omega arith
-cursor Younger = omega arith
-cursor Older = omega arith
-cursor Next = omega arith
-
 step_inside : {w v : List ℕ} (role : Role) → Step w v role → Inside w v
 step_inside {w} role d =
-    let c = cursor role in
-    subst (Inside w) (sym d.done)
-    (done_then (carried_inside d.carried)
-    (header_inside (lanes_then (wrote_header d.words (header_of role + 5) ((left_of w role).0 + 1) (omega arith)) (wrote_header (set d.words (header_of role + 5) ((left_of w role).0 + 1)) (header_of role + 6) d.run.0 c))))
+    let h = after (left_of w role) in
+    subst (Inside w) (sym d.done) (done_then (carried_inside d.carried) (header_inside (puts_lanes (left_puts role h d.run) d.words (left_in_header role h d.run))))
 
 stepped_inside : {w v : List ℕ} (role : Role) → Stepped w v role → Inside w v
 stepped_inside {w} role a = elim (dec_lt (left_of w role).0 (extent_of w role).rows.0) [

@@ -17,7 +17,7 @@ use Rattle.layout.specs.Words.{Earlier, Lower, after, mark_word, position, exten
 use Rattle.layout.specs.Frames.{SameLane, Other}
 use Rattle.layout.specs.Frames as Frames
 use Rattle.layout.proofs.Written.{lane_then, lane_stays, each_lane, each_kind}
-use Rattle.layout.specs.Words.{Put, puts}
+use Rattle.layout.specs.Words.{Put, puts, extent_puts}
 use Rattle.layout.proofs.Puts.{puts_lanes}
 use Rattle.table.specs.Marks.{After}
 use Rattle.table.proofs.Active.{own}
@@ -88,26 +88,19 @@ module _ {w v : List ℕ} {e : Extent} {h : Held} {x : ℕ} {values : List ℤ} 
     moves : (mark_word w e.lane h % 2 ≡ 0 → ⊥) → Carries w v values p (p ∷ [])
     moves d =
         let t = c.active room row d in
-        let u = t.0 in
-        let r = t.1 in
-        let a = t.2 in
+        let u = t.words in
+        let r = t.grown in
+        let a = t.appended in
         let i = a.within in
         let here : record { 0 = mark_word w e.lane h / 2 % 4294967296 } ≡ p = (let q : mark_word w e.lane h / 2 % 4294967296 ≡ p.0 = omega arith in λ j. record { 0 = q j }) in
         let g : Grows w u next r values p = subst (Grows w u next r values) here
         (a.grows values n (spare d) (subst (After w next.lane next.rows) (sym here) after-all) (subst (λ (y : Position). 0 < y.0) (sym here) z)
         (subst (λ (y : Position). y.0 ≤ length values) (sym here) b) (is ∙ ap (λ (y : Position). packed (minimum values y)) (sym here))
         (subst (λ (y : Position). Faithful (minimum values y)) (sym here) f)) in
-        let ps : List Put = record { at = 25; to = r.rows.0 } ∷ record { at = 27; to = r.height.0 } ∷ [] in
+        let ps : List Put = extent_puts Next r in
         let m : 32 ≤ length u = omega (arith, i.long) in
         let lanes = puts_lanes ps u refl in
-        let new : extent_of (puts ps u) Next ≡ r =
-        ap (λ (s : Roles). s.next) (roles_put ps u refl m)
-        ∙ (λ j. record {
-          lane = ((λ y. record { 0 = i.header 24 (omega arith) y }) ∙ sym a.same.0) j;
-          rows = r.rows;
-          capacity = ((λ y. record { 0 = i.header 26 (omega arith) y }) ∙ sym a.same.1) j;
-          height = r.height;
-        }) in
+        let new : extent_of (puts ps u) Next ≡ r = ap (λ (s : Roles). s.next) (roles_put ps u refl m) in
         let more = a.more (record { room = n.linked.room; row = spare d; high = n.stacked.low }) in
         let kept : roles_of (puts ps u) ≡ with_next (roles_of w) (extent_of (puts ps u) Next) =
         roles_put ps u refl m ∙ (λ j. with_next (roles_same w u i.header j) (sym (ap (λ (s : Roles). s.next) (roles_put ps u refl m)) j)) in
@@ -115,7 +108,7 @@ module _ {w v : List ℕ} {e : Extent} {h : Held} {x : ℕ} {values : List ℤ} 
         let same_after : (q : Position) → After u r.lane r.rows q → After (puts ps u) (extent_of (puts ps u) Next).lane (extent_of (puts ps u) Next).rows q = λ q a₁.
         subst (λ (y : Extent). After (puts ps u) y.lane y.rows q) (sym new)
         (λ j d₁. subst (λ (y : Position). Earlier y q) (sym (position_same (each_kind (each_lane lanes r.lane) Frames.row) j)) (a₁ j d₁)) in
-        subst (λ (y : List ℕ). Carries w y values p (p ∷ [])) (sym t.3) (record {
+        subst (λ (y : List ℕ). Carries w y values p (p ∷ [])) (sym t.done) (record {
           long = lanes.long ∙ i.long;
           roles = kept;
           lane = ap (λ (y : Extent). y.lane) new ∙ a.same.0;

@@ -14,7 +14,7 @@ use Rattle.layout.specs.declared.Held.{Held}
 use Rattle.layout.specs.declared.Place.{Place}
 use Rattle.layout.specs.declared.Lane.{Lane}
 use Rattle.layout.specs.declared.Extent.{Extent}
-use Rattle.layout.specs.Words.{Earlier, Lower, after, above, mark_word, position, least_word, Room}
+use Rattle.layout.specs.Words.{Earlier, Lower, after, above, mark_word, position, least_word, emptied, Room}
 use Rattle.layout.specs.Frames.{Same, SameLane, row, entry, head}
 use Rattle.layout.proofs.Written.{each_kind}
 use Rattle.table.specs.Marks.{After, active_in, inserted, released}
@@ -40,9 +40,6 @@ pub room_same : {w v : List ℕ} {n : ℕ} → length v ≡ length w → Room w 
 room_same e r = record { few = r.few; wide = omega (arith, r.wide) }
 
 -- a lane of no rows
-abbrev pub emptied : Lane → Held → Extent
-emptied k capacity = record { lane = k; rows = record { 0 = 0 }; capacity = capacity; height = record { 0 = 0 } }
-
 pub lane_empty : (w : List ℕ) (k : Lane) (capacity : Held) (values : List ℤ) → Room w capacity.0 → LaneHolds w (emptied k capacity) values
 lane_empty w k capacity values r = record {
   linked = record { room = r; full = omega arith; rising = λ g h l m. absurd (omega arith); reached = λ h l. absurd (omega arith) };

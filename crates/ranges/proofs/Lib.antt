@@ -14,5 +14,4 @@ pub mod Forgetting
 pub mod Marking
 pub mod Joining
 pub mod Ways
-pub mod Shares
 pub mod Promises

@@ -1,7 +1,7 @@
 -- The ways out of the public calls: one law for each.
 use mathlib.Core.Path.{◌≡◌, refl, sym, ap, subst, ◌∙◌}
 use mathlib.Core.Bool.{Bool, true, false, cond, true≢false, false≢true}
-use mathlib.Core.List.{List, [], ◌∷◌}
+use mathlib.Core.List.{List}
 use mathlib.Core.Logic.{inl, inr, ⊎_elim}
 use Rattle.std.specs.Prelude.{Option, None, Some}
 use Rattle.std.proofs.Common.{◌++◌, replicate, take, drop}
@@ -35,9 +35,9 @@ use Rattle.stack.proofs.Lowering.{lowered_within}
 use Rattle.stack.proofs.Rooms.{room_or_not}
 use Rattle.ranges.specs.Holding.{Holds}
 use Rattle.ranges.specs.Calls.{Inside, Opened, Valued, Marked, LookedUp, Closed}
-use Rattle.ranges.specs.Private.{Chosen, LowerOf, UpToNow, ClosedNext, Appended, Turned, Shared}
+use Rattle.ranges.specs.Private.{Chosen, LowerOf, UpToNow, ClosedNext, Joined, Turned, Shared}
 use Rattle.ranges.proofs.Ways.{apart}
-use Rattle.ranges.proofs.Bounds.{nothing_done, done_then, header_inside, within_inside, released_inside, next_inside, appended_inside, turned_inside, shared_inside}
+use Rattle.ranges.proofs.Bounds.{nothing_done, done_then, header_inside, within_inside, released_inside, next_inside, joined_inside, turned_inside, shared_inside}
 use Rattle.ranges.proofs.Later.{rooms}
 use Rattle.ranges.proofs.Upkeep.{opening_puts, opened_holds, valued_holds}
 use Rattle.ranges.proofs.Asking.{where_is, end_of, lane_of, found_active, lost_inactive, shown_word, now_word}
@@ -255,13 +255,13 @@ close_none w p f = record {
   holds = λ h first k z. absurd (false≢true z);
 }
 
-pub mark_done : (w u x v : List ℕ) (active word : ℕ) (p : Position) (m : Minimum) (e r : Extent) → 32 ≤ length w → Turned w u active p → e ≡ extent_of u Active → word ≡ packed m → unpacked word ≡ m
-    → Appended u x e p word r → Shared (puts (record { at = 1; to = r.rows.0 } ∷ record { at = 3; to = r.height.0 } ∷ []) x) v → Marked w v active p m
-mark_done w u x v active word p m e r l t own packs back a s =
+pub mark_done : (w u x v : List ℕ) (active word : ℕ) (p : Position) (m : Minimum) → 32 ≤ length w → Turned w u active p → word ≡ packed m → unpacked word ≡ m → Joined u x Active p word → Shared x v
+    → Marked w v active p m
+mark_done w u x v active word p m l t packs back a s =
     let i = turned_inside t in
     record {
-      inside = done_then i (done_then (appended_inside a) (done_then (header_inside (puts_lanes (record { at = 1; to = r.rows.0 } ∷ record { at = 3; to = r.height.0 } ∷ []) x refl)) (shared_inside s)));
+      inside = done_then i (done_then (joined_inside a) (shared_inside s));
       holds = λ h first y k unmarked count free long here is.
           joined_holds h first w active p y k unmarked count free long l here (ready h first w active p y k unmarked count free long l here t) i.long
-          (subst (λ (z : Extent). Appended u x z p word r) own a) is packs back s;
+          a.appended is packs back (subst (λ (z : List ℕ). Shared z v) a.done s);
     }

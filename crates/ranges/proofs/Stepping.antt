@@ -1,6 +1,6 @@
 -- One row of the merge, of the older lane or, when all of those are carried, of the younger one.
 use mathlib.Core.Path.{◌≡◌, refl, sym, ap, ◌∙◌}
-use mathlib.Core.List.{List, [], ◌∷◌, ◌++◌, append-nil, append_assoc}
+use mathlib.Core.List.{List, [], ◌++◌, append-nil, append_assoc}
 use mathlib.Core.Logic.{inl, inr}
 use Prim.Native.Nat.{ℕ, ◌+◌, ◌*◌, ◌<◌, ◌≤◌, min}
 use native.Mathlib.Nat.{eq-zero-or-pos}
@@ -12,12 +12,12 @@ use Rattle.history.specs.Minima.{minimum}
 use Rattle.layout.specs.declared.Held.{Held}
 use Rattle.layout.specs.declared.Place.{Place}
 use Rattle.layout.specs.declared.Lane.{Lane}
-use Rattle.layout.specs.declared.Role.TheVariants.{Younger, Next}
+use Rattle.layout.specs.declared.Role.TheVariants.{Younger, Older, Next}
 use Rattle.layout.specs.Words.{Lower, after, bottom, position, least_word, extent_of}
 use Rattle.layout.specs.Frames.{SameLane, Other}
 use Rattle.layout.specs.Frames as Frames
 use Rattle.layout.proofs.Written.{lane_then, each_lane, each_kind}
-use Rattle.layout.specs.Words.{Put, puts}
+use Rattle.layout.specs.Words.{Put, puts, left_puts}
 use Rattle.layout.proofs.Puts.{puts_lanes}
 use Rattle.table.specs.Marks.{active_in, active_below}
 use Rattle.table.proofs.Active.{own, below_after, below_fewer}
@@ -71,7 +71,7 @@ module _ {w : List ℕ} {values : List ℤ} {l : ℕ} (a : Laid (roles_of w) w v
     p = position w k h
 
     abbrev ps : List Put
-    ps = record { at = 21; to = h.0 + 1 } ∷ record { at = 22; to = run.0 } ∷ []
+    ps = left_puts Older (after h) run
 
     none_younger : s.younger_left.0 ≡ 0
     none_younger = elim (eq-zero-or-pos s.younger_left.0) [ inl z ↦ z | inr z ↦ absurd (omega (arith, a.merging.in_order z)) ]
@@ -160,7 +160,7 @@ module _ {w : List ℕ} {values : List ℤ} {l : ℕ} (a : Laid (roles_of w) w v
     p' = position w k' h'
 
     abbrev ps' : List Put
-    ps' = record { at = 13; to = h'.0 + 1 } ∷ record { at = 14; to = run.0 } ∷ []
+    ps' = left_puts Younger (after h') run
 
     row' : RowHolds w k' s.younger.height (until a) h' p'
     row' = a.younger.row h' left

@@ -9,7 +9,7 @@ use lib.Seq.{take_all}
 use Rattle.history.specs.declared.Position.{Position}
 use Rattle.layout.specs.declared.Held.{Held}
 use Rattle.layout.specs.declared.Lane.{Lane}
-use Rattle.layout.specs.Words.{row₀, bottom, Room}
+use Rattle.layout.specs.Words.{row₀, bottom, emptied, Room}
 use Rattle.layout.specs.Frames.{SameLanes, SameLane}
 use Rattle.layout.specs.Frames as Frames
 use Rattle.layout.proofs.Written.{each_lane, each_kind}
@@ -18,7 +18,7 @@ use Rattle.table.proofs.Kept.{active_same}
 use Rattle.stack.proofs.Kept.{covers_same}
 use Rattle.stack.proofs.Runs.{first_covers}
 use Rattle.ranges.specs.Holding.{upcoming, origin, LaneHolds, Roles, marks_in, Laid, Started}
-use Rattle.ranges.proofs.Lanes.{emptied, lane_empty, lane_same, room_same}
+use Rattle.ranges.proofs.Lanes.{lane_empty, lane_same, room_same}
 use Rattle.ranges.proofs.Moved.{spans_same, first_same}
 
 -- THE MERGE IS DONE: the next lane is the older one, and the younger one is free

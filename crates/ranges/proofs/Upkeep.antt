@@ -16,7 +16,8 @@ use Rattle.layout.specs.declared.Held.{Held}
 use Rattle.layout.specs.declared.Place.{Place}
 use Rattle.layout.specs.declared.Lane.{Lane}
 use Rattle.layout.specs.declared.Extent.{Extent}
-use Rattle.layout.specs.Words.{Earlier, row₀, position, Put, puts, Room}
+use Rattle.layout.specs.declared.Role.TheVariants.{Active, Younger, Older, Next}
+use Rattle.layout.specs.Words.{Earlier, row₀, position, emptied, Put, puts, extent_puts, Room}
 use Rattle.layout.specs.Frames.{SameLane}
 use Rattle.layout.specs.Frames as Frames
 use Rattle.layout.proofs.Written.{each_lane, each_kind, lane_then}
@@ -48,7 +49,9 @@ holds_by {h} {first} {v} e b laid started unfinished soon marks fresh rest = rec
 
 -- AN OPENING: u are the words with a header of zeros
 abbrev pub opening_puts : List Put
-opening_puts = record { at = 2; to = 15 } ∷ record { at = 8; to = 1 } ∷ record { at = 16; to = 2 } ∷ record { at = 24; to = 3 } ∷ []
+opening_puts =
+    extent_puts Active (emptied (record { 0 = 0 }) (record { 0 = 15 })) ++ extent_puts Younger (emptied (record { 0 = 1 }) row₀) ++ extent_puts Older (emptied (record { 0 = 2 }) row₀)
+    ++ extent_puts Next (emptied (record { 0 = 3 }) row₀)
 
 module _ (w u : List ℕ) (n k : ℕ) (l : 576 ≤ length w) (long : length u ≡ length w) (zero : (i : ℕ) → i < 32 → get_or u i 0 ≡ 0) (same : (i : ℕ) → 32 ≤ i → get_or u i 0 ≡ get_or w i 0) where
   abbrev v : List ℕ

@@ -1,10 +1,10 @@
--- The ways out of the private functions that look, close and append: one law for each, from what the functions that they call promise.
+-- The ways out of the private functions that close and append: one law for each, from what the functions that they call promise.
 use mathlib.Core.Path.{◌≡◌, refl, sym, ap, ◌∙◌}
 use mathlib.Core.Bool.{Bool, true≢false}
 use mathlib.Core.List.{List}
 use mathlib.Core.Logic.{⊎_elim}
 use Rattle.std.specs.Prelude.{Option, None, Some}
-use Prim.Native.Nat.{ℕ, ◌<◌, ◌≤◌, min}
+use Prim.Native.Nat.{ℕ, ◌<◌, ◌≤◌}
 use native.Mathlib.Omega.{arith}
 use lib.ListN.{length}
 use Rattle.laws.proofs.Tests.{lt_or_ge}
@@ -15,7 +15,7 @@ use Rattle.layout.specs.declared.Lane.{Lane}
 use Rattle.layout.specs.declared.Extent.{Extent}
 use Rattle.layout.specs.declared.Role.{Role}
 use Rattle.layout.specs.declared.Role.TheVariants.{Next}
-use Rattle.layout.specs.Words.{after, bottom, header_of, extent_of}
+use Rattle.layout.specs.Words.{after, header_of, extent_of}
 use Rattle.layout.specs.Frames.{Kind, Within}
 use Rattle.layout.specs.Calls.{Read}
 use Rattle.layout.proofs.Written.{and_then}
@@ -23,9 +23,9 @@ use Rattle.table.specs.Marks.{by_insertion, inserted}
 use Rattle.table.specs.Calls.{Sought, Inserted, Released}
 use Rattle.table.proofs.Insertion.{insertion_within}
 use Rattle.stack.specs.Entries.{by_stack}
-use Rattle.stack.specs.Calls.{Entered, Pushed}
+use Rattle.stack.specs.Calls.{Pushed}
 use Rattle.stack.proofs.Pushing.{pushed_within}
-use Rattle.ranges.specs.Private.{every_kind, Spare, Appended, LowerOf, ClosedNext}
+use Rattle.ranges.specs.Private.{every_kind, Spare, Appended, ClosedNext}
 use Rattle.ranges.proofs.Lanes.{lane_appended, marks_appended, position_old, position_new}
 
 -- no answer is both something and nothing
@@ -35,24 +35,6 @@ both e = absurd (cc)
 -- `up_to_start` and `up_to_now`: no two roles are one
 pub apart : {C : Type 0} {role : Role} (a b : Role) → role ≡ a → role ≡ b → (header_of a ≡ header_of b → ⊥) → C
 apart a b e f n = absurd (n (ap header_of (sym e ∙ f)))
-
--- `below`: there is no entry, or there is one. Fewer words than a header's have room for no stack, and the lane read of them is empty
-module _ {w : List ℕ} {role : Role} {e : Extent} {low : Option ℕ} (read : Read w role e) (seen : Entered w e.lane e.height bottom low) where
-  -- the look is at the lane that the header has
-  looked : 32 ≤ length w → Entered w (extent_of w role).lane (extent_of w role).height bottom low
-  looked l = rw (read.own l) at seen
-
-  short : length w < 32 → low ≡ None
-  short l = seen.nothing (λ o m. omega (arith, ap (λ (i : Extent). i.height.0) (read.short l)))
-
-  pub lower_none : (x : ℕ) → low ≡ None → LowerOf w role x x
-  lower_none x q = record { some = λ o l. both (sym ((looked (omega (arith, o.wide))).shown o l) ∙ q); none = λ f. refl }
-
-  pub lower_some : (x y r : ℕ) → low ≡ Some y → r ≡ min x y → LowerOf w role x r
-  lower_some x y r q m = record {
-    some = λ o l. let same = sym q ∙ (looked (omega (arith, o.wide))).shown o l in m ∙ ap (min x) cc;
-    none = λ f. ⊎_elim (λ (s : length w < 32). both (sym q ∙ short s)) (λ (l : 32 ≤ length w). both (sym q ∙ (looked l).nothing f)) (lt_or_ge (length w) 32);
-  }
 
 -- `close_carried`: the lane is the header's where it has a row
 read_own : {w : List ℕ} {role : Role} {e : Extent} → Read w role e → 0 < e.rows.0 → e ≡ extent_of w role

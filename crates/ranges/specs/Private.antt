@@ -1,5 +1,5 @@
 -- The contracts of the ranges' private functions.
-use Rattle.std.specs.Prelude.{◌≡◌, Bool, true, List, [], ◌∷◌, ◌++◌, ◌⊎◌, ℕ, Option, None, Some, ◌+◌, ◌*◌, ◌/◌, ◌%◌, ◌<◌, ◌≤◌, min, max, ℤ, length, get_or}
+use Rattle.std.specs.Prelude.{◌≡◌, Bool, true, List, [], ◌∷◌, ◌++◌, ◌⊎◌, ℕ, Option, None, Some, ◌+◌, ◌*◌, ◌/◌, ◌%◌, ◌<◌, ◌≤◌, ltb, min, max, ℤ, length}
 use Rattle.history.specs.declared.Position.{Position}
 use Rattle.history.specs.Minima.{minimum}
 use Rattle.layout.specs.declared.Held.{Held}
@@ -7,7 +7,7 @@ use Rattle.layout.specs.declared.Place.{Place}
 use Rattle.layout.specs.declared.Extent.{Extent}
 use Rattle.layout.specs.declared.Role.{Role}
 use Rattle.layout.specs.declared.Role.TheVariants.{Active, Younger, Older, Next}
-use Rattle.layout.specs.Words.{Lower, Under, after, bottom, mark_word, position, least_word, header_of, extent_of, start_of, left_of, run_of, Room, Put, puts}
+use Rattle.layout.specs.Words.{Lower, Under, after, row₀, bottom, mark_word, position, least_word, extent_of, start_of, left_of, run_of, emptied, Room, Put, puts, extent_puts, start_puts, left_puts}
 use Rattle.layout.specs.Frames.{Kind, Within}
 use Rattle.table.specs.Marks.{After}
 use Rattle.table.specs.Calls.{Sought, Released}
@@ -41,13 +41,19 @@ pub record Appended (w v : List ℕ) (e : Extent) (p : Position) (x : ℕ) (r : 
   pub grows : (values : List ℤ) → LaneHolds w e values → Lower e.rows e.capacity → After w e.lane e.rows p → 0 < p.0 → p.0 ≤ length values
       → x ≡ packed (minimum values p) → Faithful (minimum values p) → Grows w v e r values p
 
--- `carry`: a row whose mark is closed, or that is none of a lane's, changes nothing, and one whose mark is active is appended to the next lane
+-- `join`: a mark is appended to the lane of a role, and the header has the lane as it is then
+pub record Joined (w v : List ℕ) (role : Role) (p : Position) (x : ℕ) : Type 0 where
+  pub words : List ℕ
+  pub grown : Extent
+  pub appended : Appended w words (extent_of w role) p x grown
+  pub done : v ≡ puts (extent_puts role grown) words
+
+-- `carry`: a row whose mark is closed, or that is none of a lane's, changes nothing, and one whose mark is active joins the next lane's
 pub record Carried (w v : List ℕ) (e : Extent) (h : Held) (x : ℕ) : Type 0 where
   pub idle : (Room w e.rows.0 → Lower h e.rows → ⊥) → v ≡ w
   pub closed : mark_word w e.lane h % 2 ≡ 0 → v ≡ w
   pub active : Room w e.rows.0 → Lower h e.rows → (mark_word w e.lane h % 2 ≡ 0 → ⊥)
-      → (u : List ℕ) × (r : Extent) × Appended w u (extent_of w Next) (record { 0 = mark_word w e.lane h / 2 % 4294967296 }) x r
-      × (v ≡ puts (record { at = 25; to = r.rows.0 } ∷ record { at = 27; to = r.height.0 } ∷ []) u)
+      → Joined w v Next (record { 0 = mark_word w e.lane h / 2 % 4294967296 }) x
 
 -- `below`: the lower of a word and of the lowest entry of a role's lane; where it has none, the word
 pub record LowerOf (w : List ℕ) (role : Role) (x r : ℕ) : Type 0 where
@@ -78,6 +84,10 @@ pub record ClosedNext (w v : List ℕ) (p : Position) : Type 0 where
   pub lost : found ≡ None → v ≡ w
   pub closed : (g : Held) → found ≡ Some g → Released w v (extent_of w Next).lane (extent_of w Next).rows g
 
+-- `has_left`: a row of a role's lane is left to be carried
+abbrev pub has_left : List ℕ → Role → Bool
+has_left w role = ltb (left_of w role).0 (extent_of w role).rows.0
+
 -- `step`: the next row of a lane is carried, with its minimum up to where the active lane starts; where none is left, or its run cannot be read, nothing is done
 pub record Step (w v : List ℕ) (role : Role) : Type 0 where
   pub word : ℕ
@@ -86,7 +96,7 @@ pub record Step (w v : List ℕ) (role : Role) : Type 0 where
   pub low : UpToStart w role (least_word w (extent_of w role).lane (run_of w role)) word
   pub carried : Carried w words (extent_of w role) (left_of w role) word
   pub onward : Advanced words (extent_of w role).lane (extent_of w role).height (run_of w role) (after (left_of w role)) run
-  pub done : v ≡ puts (record { at = header_of role + 5; to = (left_of w role).0 + 1 } ∷ record { at = header_of role + 6; to = run.0 } ∷ []) words
+  pub done : v ≡ puts (left_puts role (after (left_of w role)) run) words
 
 pub record Stepped (w v : List ℕ) (role : Role) : Type 0 where
   pub done : Lower (left_of w role) (extent_of w role).rows → Room w (extent_of w role).height.0 → Under (run_of w role) (extent_of w role).height → Step w v role
@@ -100,9 +110,10 @@ pub record Merged (w v : List ℕ) : Type 0 where
 -- `finish`: when no row is left, the next lane is the older one, and there is no younger one
 abbrev pub finishing : List ℕ → List Put
 finishing w =
-    record { at = 9; to = 0 } ∷ record { at = 11; to = 0 } ∷ record { at = 12; to = get_or w 4 0 } ∷ record { at = 13; to = 0 } ∷ record { at = 14; to = 0 }
-    ∷ record { at = 16; to = get_or w 24 0 } ∷ record { at = 17; to = get_or w 25 0 } ∷ record { at = 18; to = get_or w 26 0 } ∷ record { at = 19; to = get_or w 27 0 }
-    ∷ record { at = 21; to = 0 } ∷ record { at = 22; to = 0 } ∷ record { at = 24; to = get_or w 16 0 } ∷ record { at = 25; to = 0 } ∷ record { at = 27; to = 0 } ∷ []
+    extent_puts Older (extent_of w Next)
+    ++ extent_puts Younger (emptied (extent_of w Younger).lane (extent_of w Younger).capacity)
+    ++ extent_puts Next (emptied (extent_of w Older).lane (extent_of w Next).capacity)
+    ++ start_puts Younger (start_of w Active) ++ left_puts Older row₀ bottom ++ left_puts Younger row₀ bottom
 
 pub record Finished (w v : List ℕ) : Type 0 where
   pub waits : Lower (left_of w Older) (extent_of w Older).rows ⊎ Lower (left_of w Younger) (extent_of w Younger).rows → v ≡ w
@@ -115,10 +126,11 @@ size_for active left = max (2 * active + 17) ((left + 1) / 2)
 -- `turn`: when the active lane is full and no merge is under way, it becomes the younger lane, the free lane becomes the active one, and the merge begins
 abbrev pub turning : List ℕ → ℕ → Position → List Put
 turning w active p =
-    record { at = 0; to = get_or w 8 0 } ∷ record { at = 1; to = 0 } ∷ record { at = 2; to = size_for active (get_or w 17 0 + get_or w 1 0) } ∷ record { at = 3; to = 0 } ∷ record { at = 4; to = p.0 }
-    ∷ record { at = 8; to = get_or w 0 0 } ∷ record { at = 9; to = get_or w 1 0 } ∷ record { at = 10; to = get_or w 2 0 } ∷ record { at = 11; to = get_or w 3 0 } ∷ record { at = 12; to = get_or w 4 0 }
-    ∷ record { at = 13; to = 0 } ∷ record { at = 14; to = 0 } ∷ record { at = 21; to = 0 } ∷ record { at = 22; to = 0 } ∷ record { at = 25; to = 0 }
-    ∷ record { at = 26; to = 2 * active + 17 } ∷ record { at = 27; to = 0 } ∷ []
+    extent_puts Active (emptied (extent_of w Younger).lane (record { 0 = size_for active ((extent_of w Older).rows.0 + (extent_of w Active).rows.0) }))
+    ++ extent_puts Younger (extent_of w Active)
+    ++ extent_puts Next (emptied (extent_of w Next).lane (record { 0 = 2 * active + 17 }))
+    ++ start_puts Active p ++ start_puts Younger (start_of w Active)
+    ++ left_puts Older row₀ bottom ++ left_puts Younger row₀ bottom
 
 pub record Turns (w : List ℕ) (active : ℕ) : Type 0 where
   pub few : active < 4096

@@ -4,10 +4,10 @@
 
 ghost use Rattle.std.specs.Prelude.{◌≡◌, ◌<◌, ◌≤◌, length};
 ghost use Rattle.ranges.specs.Calls.{Opened, Valued, Marked, LookedUp, Closed};
-ghost use Rattle.ranges.specs.Private.{Chosen, LowerOf, UpToStart, UpToNow, ClosedNext, Appended, Carried, Stepped, Merged, Finished, size_for, Turned, Shared};
+ghost use Rattle.ranges.specs.Private.{Chosen, LowerOf, UpToStart, UpToNow, ClosedNext, Appended, Joined, Carried, has_left, Stepped, Merged, Finished, size_for, Turned, Shared};
 
 use history::{Minimum, Position};
-use layout::{Extent, Held, Place, Role};
+use layout::{Extent, Held, Lane, Place, Role};
 
 // Words of any content are opened: four empty lanes. Where they are too few nothing is done.
 pub fn open(area: &mut [u64])
@@ -16,23 +16,23 @@ pub fn open(area: &mut [u64])
     if area.len() < 576 {
         return;
     }
-    area[..32].fill(0);
-    area[2] = layout::FIRST_ROWS as u64;
-    area[8] = 1;
-    area[16] = 2;
-    area[24] = 3;
+    area[..layout::HEADER].fill(0);
+    layout::write(area, Role::Active, Lane(0).empty(Held(layout::FIRST_ROWS)));
+    layout::write(area, Role::Younger, Lane(1).empty(Held(0)));
+    layout::write(area, Role::Older, Lane(2).empty(Held(0)));
+    layout::write(area, Role::Next, Lane(3).empty(Held(0)));
 }
 
 // A value comes: it lowers each mark's range minimum that is above it. Only the active lane's stack has to know: its lowest entry counts for the marks of the lanes before it.
 pub fn value(area: &mut [u64], m: Minimum)
     ensures { Valued area.old area.new m }
 {
-    if area.len() < 32 {
+    if area.len() < layout::HEADER {
         return;
     }
     let active = layout::read(area, Role::Active);
     let top = stack::lower(area, active, packing::pack(m));
-    area[3] = top.0 as u64;
+    area[Role::Active.height()] = top.0 as u64;
 }
 
 // The role of the lane in which a position's mark stands.
@@ -42,10 +42,10 @@ fn role_of(area: &[u64], p: Position) -> Role
     requires { 32 ≤ length area.now }
     ensures { Chosen area.now p result }
 {
-    if area[4] <= p.0 as u64 {
+    if area[Role::Active.start()] <= u64::from(p.0) {
         return Role::Active;
     }
-    if area[12] <= p.0 as u64 {
+    if area[Role::Younger.start()] <= u64::from(p.0) {
         return Role::Younger;
     }
     Role::Older
@@ -59,10 +59,7 @@ fn below(area: &[u64], role: Role, word: u64) -> u64
     let Some(least) = stack::entry_at(area, e, Place(0)) else {
         return word;
     };
-    if least < word {
-        return least;
-    }
-    word
+    word.min(least)
 }
 
 // A mark's minimum up to where the active lane starts, from its own lane's.
@@ -93,7 +90,7 @@ fn up_to_now(area: &[u64], role: Role, word: u64) -> u64
 pub fn look_up(area: &[u64], p: Position) -> Option<Minimum>
     ensures { LookedUp area.now p result }
 {
-    if area.len() < 32 {
+    if area.len() < layout::HEADER {
         return None;
     }
     let role = role_of(area, p);
@@ -108,7 +105,7 @@ pub fn look_up(area: &[u64], p: Position) -> Option<Minimum>
 pub fn close(area: &mut [u64], p: Position) -> bool
     ensures { Closed area.old area.new p result }
 {
-    if area.len() < 32 {
+    if area.len() < layout::HEADER {
         return false;
     }
     let role = role_of(area, p);
@@ -155,6 +152,16 @@ fn append(area: &mut [u64], e: Extent, p: Position, word: u64) -> Extent
     }
 }
 
+// A mark at a position after all others of a role's lane joins them, with its range minimum as a word, and the header has the lane as it is then.
+fn join(area: &mut [u64], role: Role, p: Position, word: u64)
+    requires { 32 ≤ length area.old }
+    ensures { Joined area.old area.new role p word }
+{
+    let e = layout::read(area, role);
+    let grown = append(area, e, p, word);
+    layout::write(area, role, grown);
+}
+
 // A row is carried into the next lane, if its mark is active, with its minimum as a word.
 fn carry(area: &mut [u64], e: Extent, held: Held, word: u64)
     ensures { Carried area.old area.new e held word }
@@ -169,11 +176,16 @@ fn carry(area: &mut [u64], e: Extent, held: Held, word: u64)
     if mark % 2 == 0 {
         return;
     }
-    let next = layout::read(area, Role::Next);
     let p = Position((mark / 2 % 4294967296) as u32);
-    let grown = append(area, next, p, word);
-    area[25] = grown.rows.0 as u64;
-    area[27] = grown.height.0 as u64;
+    join(area, Role::Next, p, word);
+}
+
+// Whether a row of a role's lane is left to be carried.
+fn has_left(area: &[u64], role: Role) -> bool
+    requires { 32 ≤ length area.now }
+    ensures { result ≡ has_left area.now role }
+{
+    area[role.left()] < area[role.rows()]
 }
 
 // The next row of a lane is carried, if one is left.
@@ -181,22 +193,20 @@ fn step(area: &mut [u64], role: Role)
     requires { 32 ≤ length area.old }
     ensures { Stepped area.old area.new role }
 {
-    let at = layout::header(role);
     let e = layout::read(area, role);
-    let left = Held(area[at + 5] as usize);
-    let run = Place(area[at + 6] as usize);
-    if e.rows <= left {
+    let held = Held(area[role.left()] as usize);
+    let place = Place(area[role.run()] as usize);
+    if e.rows <= held {
         return;
     }
-    let Some(entry) = stack::entry_at(area, e, run) else {
+    let Some(entry) = stack::entry_at(area, e, place) else {
         return;
     };
     let word = up_to_start(area, role, entry);
-    carry(area, e, left, word);
-    let next = Held(left.0 + 1);
-    let top = stack::advance(area, e, run, next);
-    area[at + 5] = next.0 as u64;
-    area[at + 6] = top.0 as u64;
+    carry(area, e, held, word);
+    let next = Held(held.0 + 1);
+    let run = stack::advance(area, e, place, next);
+    layout::write_left(area, role, next, run);
 }
 
 // One row of the merge: the older lane's come first.
@@ -204,7 +214,7 @@ fn merge_row(area: &mut [u64])
     requires { 32 ≤ length area.old }
     ensures { Merged area.old area.new }
 {
-    if area[21] < area[17] {
+    if has_left(area, Role::Older) {
         step(area, Role::Older);
     } else {
         step(area, Role::Younger);
@@ -216,32 +226,22 @@ fn finish(area: &mut [u64])
     requires { 32 ≤ length area.old }
     ensures { Finished area.old area.new }
 {
-    if area[21] < area[17] {
+    if has_left(area, Role::Older) {
         return;
     }
-    if area[13] < area[9] {
+    if has_left(area, Role::Younger) {
         return;
     }
-    let start = area[4];
-    let older = area[16];
-    let lane = area[24];
-    let rows = area[25];
-    let capacity = area[26];
-    let height = area[27];
-    area[9] = 0;
-    area[11] = 0;
-    area[12] = start;
-    area[13] = 0;
-    area[14] = 0;
-    area[16] = lane;
-    area[17] = rows;
-    area[18] = capacity;
-    area[19] = height;
-    area[21] = 0;
-    area[22] = 0;
-    area[24] = older;
-    area[25] = 0;
-    area[27] = 0;
+    let younger = layout::read(area, Role::Younger);
+    let older = layout::read(area, Role::Older);
+    let next = layout::read(area, Role::Next);
+    let start = area[Role::Active.start()];
+    layout::write(area, Role::Older, next);
+    layout::write(area, Role::Younger, younger.lane.empty(younger.capacity));
+    layout::write(area, Role::Next, older.lane.empty(next.capacity));
+    area[Role::Younger.start()] = start;
+    layout::write_left(area, Role::Older, Held(0), Place(0));
+    layout::write_left(area, Role::Younger, Held(0), Place(0));
 }
 
 // The rows that the active lane gets room for: 17 and as many again as are active, and at least so many that each mark has to carry two of the rows that are left.
@@ -249,12 +249,7 @@ fn size_for(active: usize, left: usize) -> usize
     requires { (active < 4096) × (left ≤ 16414) }
     ensures { result ≡ size_for active left }
 {
-    let room = 2 * active + 17;
-    let half = (left + 1) / 2;
-    if half < room {
-        return room;
-    }
-    half
+    (2 * active + 17).max(left.div_ceil(2))
 }
 
 // When the active lane is full, it becomes the younger one, the free lane takes its place, and the merge into the next lane begins. Source document 000, Lemma 7: "When this active
@@ -266,43 +261,31 @@ fn turn(area: &mut [u64], active: usize, p: Position)
     if layout::MOST_MARKS <= active {
         return;
     }
-    let rows = area[1];
-    let capacity = area[2];
-    if rows < capacity {
+    let full = layout::read(area, Role::Active);
+    if full.rows < full.capacity {
         return;
     }
-    if area[9] != 0 {
+    let free = layout::read(area, Role::Younger);
+    if free.rows != Held(0) {
         return;
     }
-    let older = area[17];
-    if 8207 < older {
+    let older = layout::read(area, Role::Older);
+    if layout::MOST_ROWS < older.rows.0 {
         return;
     }
-    if 8207 < rows {
+    if layout::MOST_ROWS < full.rows.0 {
         return;
     }
-    let size = size_for(active, (older + rows) as usize);
-    let full = area[0];
-    let height = area[3];
-    let start = area[4];
-    let free = area[8];
-    area[0] = free;
-    area[1] = 0;
-    area[2] = size as u64;
-    area[3] = 0;
-    area[4] = p.0 as u64;
-    area[8] = full;
-    area[9] = rows;
-    area[10] = capacity;
-    area[11] = height;
-    area[12] = start;
-    area[13] = 0;
-    area[14] = 0;
-    area[21] = 0;
-    area[22] = 0;
-    area[25] = 0;
-    area[26] = (2 * active + 17) as u64;
-    area[27] = 0;
+    let next = layout::read(area, Role::Next);
+    let start = area[Role::Active.start()];
+    let size = size_for(active, older.rows.0 + full.rows.0);
+    layout::write(area, Role::Active, free.lane.empty(Held(size)));
+    layout::write(area, Role::Younger, full);
+    layout::write(area, Role::Next, next.lane.empty(Held(2 * active + 17)));
+    area[Role::Active.start()] = u64::from(p.0);
+    area[Role::Younger.start()] = start;
+    layout::write_left(area, Role::Older, Held(0), Place(0));
+    layout::write_left(area, Role::Younger, Held(0), Place(0));
 }
 
 // A mark's share of the merge: two rows.
@@ -310,7 +293,7 @@ fn merge(area: &mut [u64])
     requires { 32 ≤ length area.old }
     ensures { Shared area.old area.new }
 {
-    if area[9] == 0 {
+    if area[Role::Younger.rows()] == 0 {
         return;
     }
     merge_row(area);
@@ -322,13 +305,10 @@ fn merge(area: &mut [u64])
 pub fn mark(area: &mut [u64], active: usize, p: Position, m: Minimum)
     ensures { Marked area.old area.new active p m }
 {
-    if area.len() < 32 {
+    if area.len() < layout::HEADER {
         return;
     }
     turn(area, active, p);
-    let e = layout::read(area, Role::Active);
-    let grown = append(area, e, p, packing::pack(m));
-    area[1] = grown.rows.0 as u64;
-    area[3] = grown.height.0 as u64;
+    join(area, Role::Active, p, packing::pack(m));
     merge(area);
 }

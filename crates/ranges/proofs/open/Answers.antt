@@ -9,4 +9,4 @@ pub slice_bounds-fill-end-2 : goal.slice_bounds-fill-end-2
 slice_bounds-fill-end-2 c = sym (length-take-le 32 c.args.area.now (omega arith))
 
 pub returns : goal.returns
-returns c = open_done _ _ (omega arith) (c.fill.ensures.after (λ y e. e))
+returns c = grind (arith, open_done _ _ (omega arith) (c.fill.ensures.after (λ y e. e)))

@@ -5,4 +5,4 @@ use Rattle.ranges.proofs.value.Goals as goal
 
 pub returns : goal.returns
 returns c =
-    value_done _ _ _ _ _ _ (omega arith) (c.read-active.ensures.own (omega arith)) c.pack.ensures.0 c.pack.ensures.1 c.lower-top.ensures
+    rw c.height.ensures.0 (value_done _ _ _ _ _ _ (omega arith) (c.read-active.ensures.own (omega arith)) c.pack.ensures.0 c.pack.ensures.1 c.lower-top.ensures)
