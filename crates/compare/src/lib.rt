@@ -1,13 +1,12 @@
-// What the program `played` compares: lent words with a pattern and with other words, a session with another, a reply with an acceptance. Each is held to what it
-// says, so that a line of the program's output that says 0 or "equal" can fail.
+// What the program `played` compares: lent words with a pattern and with other words, and a session with another. Each is held to what it says, so that a line of the program's output that says 0 or
+// "equal" can fail.
 #![tactic(auto)]
 
-ghost use Rattle.std.specs.Prelude.{◌≡◌, ◌≤◌};
-ghost use Rattle.history.specs.Replies.{told};
+ghost use Rattle.std.specs.Prelude.{◌≡◌};
 ghost use Rattle.compare.specs.Words.{pattern_at, Filled, differing_words, off_pattern};
-ghost use Rattle.compare.specs.Answers.{Compared, is_accepted};
+ghost use Rattle.compare.specs.Answers.{Compared};
 
-use history::{Reply, Session};
+use history::Session;
 
 // What an area is filled with: no two words alike.
 fn pattern(i: usize) -> u64
@@ -19,8 +18,8 @@ fn pattern(i: usize) -> u64
 pub fn fill(area: &mut [u64])
     ensures { Filled area.old area.new }
 {
-    for i in 0..area.len() {
-        area[i] = pattern(i);
+    for (i, word) in area.iter_mut().enumerate() {
+        *word = pattern(i);
     }
 }
 
@@ -28,38 +27,24 @@ pub fn fill(area: &mut [u64])
 pub fn off_pattern(area: &[u64], from: usize) -> usize
     ensures { result ≡ off_pattern area.now from }
 {
-    let mut count = 0;
-    for i in from..area.len() {
-        if area[i] != pattern(i) {
-            count += 1;
-        }
-    }
-    count
+    area.iter()
+        .enumerate()
+        .skip(from)
+        .filter(|(i, word)| **word != pattern(*i))
+        .count()
 }
 
 // How many words of two areas differ.
-pub fn differing(a: &[u64; 577], b: &[u64; 577]) -> usize
-    ensures { result ≡ differing_words a.now b.now 577 }
+pub fn differing<const N: usize>(a: &[u64; N], b: &[u64; N]) -> usize
+    ensures { result ≡ differing_words a.now b.now }
 {
-    let mut count = 0;
-    for i in 0..577 {
-        if a[i] != b[i] {
-            count += 1;
-        }
-    }
-    count
+    a.iter().zip(b).filter(|(x, y)| x != y).count()
 }
 
 // Whether two sessions are equal in all six things that they hold.
 pub fn is_same(a: Session, b: Session) -> bool
     ensures { Compared a b result }
 {
+    // The derived equality, under a name whose contract holds it to all six, so that an edit that leaves one of them out is refused.
     a == b
-}
-
-// 1 for an acceptance, 0 for a refusal.
-pub fn accepted(reply: Reply) -> u64
-    ensures { (result ≡ is_accepted (told reply)) × (result ≤ 1) }
-{
-    u64::from(reply.is_ok())
 }

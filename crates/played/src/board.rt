@@ -1,8 +1,9 @@
 // The words that a sequence of calls is lent, with the session that the last call left. Each call prints what it answers, up to a `; `.
 ghost use Rattle.std.specs.Prelude.{◌*◌, ◌<◌, ◌^◌};
 
+use crate::rounds;
+use crate::script::{self, Step};
 use crate::shown::Shown;
-use crate::{rounds, script};
 use history::{Command, Session};
 use std::{fmt, io};
 
@@ -67,15 +68,28 @@ impl<'a, R: Print + Drop, const N: usize> Board<'a, R, N> {
         print!(self.rt; "{}: {}; ", Shown(command), Shown(answer.reply))
     }
 
-    // Makes each call of a script in turn, lent the first n words.
+    // As many rounds as `turns` says, all of one value, lent the first n words. Prints how many commands were accepted.
+    pub fn play(&mut self, n: usize, turns: u32, value: i32) -> io::Result<()> {
+        let played = rounds::play(self.session, first(self.area, n), value, turns);
+        self.session = played.session;
+        print!(self.rt; "{turns} rounds: {} accepted; ", played.accepted)
+    }
+
+    // Makes each step of a script in turn, lent the first n words. Of rounds it prints the value before.
     fn apply_each(&mut self, n: usize, script: &str) -> io::Result<()> {
-        for command in script.split_whitespace().filter_map(script::command_of) {
-            self.apply(n, command)?;
+        for step in script.split_whitespace().filter_map(script::step_of) {
+            match step {
+                Step::Call(command) => self.apply(n, command)?,
+                Step::Rounds { turns, value } => {
+                    print!(self.rt; "V {value}, M, C in ")?;
+                    self.play(n, turns, value)?;
+                }
+            }
         }
         Ok(())
     }
 
-    // Makes each call of a script in turn, lent the whole area.
+    // Makes each step of a script in turn, lent the whole area.
     pub fn run(&mut self, script: &str) -> io::Result<()> {
         self.apply_each(N, script)
     }
@@ -84,18 +98,5 @@ impl<'a, R: Print + Drop, const N: usize> Board<'a, R, N> {
     pub fn run_first(&mut self, n: usize, script: &str) -> io::Result<()> {
         print!(self.rt; "lent {} ", n.min(N))?;
         self.apply_each(n, script)
-    }
-
-    // As many rounds as `turns` says, all of one value. Prints how many commands were accepted.
-    pub fn play(&mut self, v: i32, turns: u32) -> io::Result<()> {
-        let played = rounds::play(self.session, first(self.area, N), v, turns);
-        self.session = played.session;
-        print!(self.rt; "{turns} rounds: {} accepted; ", played.accepted)
-    }
-
-    // The same, and prints the value before.
-    pub fn play_shown(&mut self, v: i32, turns: u32) -> io::Result<()> {
-        print!(self.rt; "V {v}, M, C in ")?;
-        self.play(v, turns)
     }
 }

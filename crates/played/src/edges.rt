@@ -1,6 +1,6 @@
 // Answers that documents 01 and 02 imply and document 01's examples do not show, a line each.
 use crate::board::Board;
-use crate::examples;
+use crate::{examples, merges};
 use std::io;
 
 // A length other than the opening's is refused, and changes nothing for the next command.
@@ -23,24 +23,6 @@ fn unopened(rt: &(impl Print + Drop)) -> io::Result<()> {
     board.end()
 }
 
-// Two marks with one dip value, each at its own place: document 02, point 5, with K = 2.
-fn two_places(rt: &(impl Print + Drop)) -> io::Result<()> {
-    let mut area = [0u64; 640];
-    let mut board = Board::open(rt, &mut area)?;
-    board.run("V5 M V5 M Q1 Q2")?;
-    board.end()
-}
-
-// Three of them, on words for four marks: one is closed, an equal value takes over from none, and a lower one from all. The words from
-// 512 + 64 * 3 on keep the pattern.
-fn side_by_side(rt: &(impl Print + Drop)) -> io::Result<()> {
-    let mut area = [0u64; 768];
-    compare::fill(&mut area);
-    let mut board = Board::open(rt, &mut area)?;
-    board.run("V5 M V5 M V5 M Q1 Q2 Q3 C2 V5 Q1 Q3 V4 Q1 Q3")?;
-    board.end_changed(704)
-}
-
 // An older mark keeps its dip through many rounds, whose closed marks the merges leave behind. The area is opened for 4,096 marks, and two
 // at most are active together: the words from 512 + 64 * 2 on keep the pattern.
 fn many_merges(rt: &(impl Print + Drop)) -> io::Result<()> {
@@ -48,7 +30,7 @@ fn many_merges(rt: &(impl Print + Drop)) -> io::Result<()> {
     compare::fill(&mut area);
     let mut board = Board::open(rt, &mut area)?;
     board.run("V9 M V8 M V3 C1")?;
-    board.play(5, 10000)?;
+    board.play(262656, 10000, 5)?;
     board.run("Q2 Q1")?;
     board.end_changed(640)
 }
@@ -56,11 +38,14 @@ fn many_merges(rt: &(impl Print + Drop)) -> io::Result<()> {
 pub fn sequences(rt: &(impl Print + Drop)) -> io::Result<()> {
     other_lengths(rt)?;
     // Refusals in a row leave position 2 unmarked, and it is marked once a Close makes room.
-    examples::play(rt, "V1 M V2 M M Q2 C2 M C1 M Q2")?;
+    examples::play::<576>(rt, "V1 M V2 M M Q2 C2 M C1 M Q2")?;
     // Among equal values the earliest place counts, also where a greater one stands between them.
-    examples::play(rt, "V3 M V3 V4 V3 Q1")?;
-    two_places(rt)?;
-    side_by_side(rt)?;
+    examples::play::<576>(rt, "V3 M V3 V4 V3 Q1")?;
+    // Two marks with one dip value, each at its own place: document 02, point 5, with K = 2.
+    examples::play::<640>(rt, "V5 M V5 M Q1 Q2")?;
+    // Three of them, on words for four marks: one is closed, an equal value takes over from none, and a lower one from all. The words from 512 + 64 * 3 on keep the pattern.
+    let equal = ["V5 M V5 M V5 M Q1 Q2 Q3 C2 V5 Q1 Q3 V4 Q1 Q3"];
+    merges::play::<768>(rt, &equal, 704)?;
     many_merges(rt)?;
     unopened(rt)
 }

@@ -1,4 +1,6 @@
 // The played examples of document 01, in its order, a line each.
+ghost use Rattle.std.specs.Prelude.{◌*◌, ◌<◌, ◌^◌};
+
 use crate::board::Board;
 use std::io;
 
@@ -24,9 +26,11 @@ pub fn openings(rt: &(impl Print + Drop)) -> io::Result<()> {
     Ok(())
 }
 
-// A script with K = 1.
-pub fn play(rt: &(impl Print + Drop), script: &str) -> io::Result<()> {
-    let mut area = [0u64; 576];
+// A script on N words, which are opened.
+pub fn play<const N: usize>(rt: &(impl Print + Drop), script: &str) -> io::Result<()>
+    requires { N * 8 < 2 ^ 63 }
+{
+    let mut area = [0u64; N];
     let mut board = Board::open(rt, &mut area)?;
     board.run(script)?;
     board.end()
@@ -35,11 +39,11 @@ pub fn play(rt: &(impl Print + Drop), script: &str) -> io::Result<()> {
 fn many_rounds(rt: &(impl Print + Drop)) -> io::Result<()> {
     let mut area = [0u64; 576];
     let mut board = Board::open(rt, &mut area)?;
-    board.play(7, 100000)?;
+    board.play(576, 100000, 7)?;
     board.end()
 }
 
-// All but the openings and the command bytes.
+// All but the openings and the command bytes, with K = 1.
 pub fn sequences(rt: &(impl Print + Drop)) -> io::Result<()> {
     for script in [
         "M",
@@ -55,7 +59,7 @@ pub fn sequences(rt: &(impl Print + Drop)) -> io::Result<()> {
         "V1 M V2 C1 M Q2",
         "V1 M V2 M C1 M",
     ] {
-        play(rt, script)?;
+        play::<576>(rt, script)?;
     }
     many_rounds(rt)
 }

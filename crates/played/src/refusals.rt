@@ -43,7 +43,7 @@ impl<R: Print + Drop> Board<'_, R, 577> {
 // 9, 8, 11 and 10 in a merge, which the 16th Mark begins and the 23rd ends.
 fn in_merge(rt: &(impl Print + Drop), area: &mut [u64; 577]) -> io::Result<()> {
     let mut board = Board::open(rt, area)?;
-    board.play_shown(5, 17)?;
+    board.run("17*5")?;
     board.refused(577, "M")?;
     board.run_first(577, "V6 M")?;
     for command in ["M", "Q17", "C17"] {

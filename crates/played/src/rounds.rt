@@ -1,39 +1,26 @@
 // Rounds of a Value, a Mark and a Close of that position.
-ghost use Rattle.std.specs.Prelude.{◌≤◌};
+ghost use Rattle.std.specs.Prelude.{◌+◌, ◌<◌, ◌^◌};
 ghost use Rattle.played.specs.Rounds.{Rounded};
 
+use following::Progress;
 use history::Session;
 
-// A session, with how many of the commands that led to it were accepted.
-#[derive(Clone, Copy)]
-pub struct Played {
-    pub session: Session,
-    pub accepted: u64,
-}
-
-// A round, and how many of its three commands were accepted.
-fn round(s: Session, area: &mut [u64], v: i32) -> Played
-    ensures { Rounded s v area.old area.new result.session result.accepted × (result.accepted ≤ 3) }
+// A round more.
+fn round(progress: Progress<Session>, area: &mut [u64], v: i32) -> Progress<Session>
+    requires { progress.read + 3 < 2 ^ 64 }
+    ensures { Rounded progress v area.old area.new result }
 {
-    let valued = engine::value(s, area, v);
+    let valued = engine::value(progress.session, area, v);
     let marked = engine::mark(valued.session, area);
     let closed = engine::close(marked.session, area, marked.session.present);
-    Played {
-        session: closed.session,
-        accepted: compare::accepted(valued.reply)
-            + compare::accepted(marked.reply)
-            + compare::accepted(closed.reply),
-    }
+    progress.after(valued).after(marked).after(closed)
 }
 
 // As many rounds as `turns` says, all of one value.
-pub fn play(start: Session, area: &mut [u64], v: i32, turns: u32) -> Played {
-    let mut session = start;
-    let mut accepted = 0;
+pub fn play(start: Session, area: &mut [u64], v: i32, turns: u32) -> Progress<Session> {
+    let mut progress = Progress::new(start);
     for _i in 0..turns {
-        let played = round(session, area, v);
-        session = played.session;
-        accepted += played.accepted;
+        progress = round(progress, area, v);
     }
-    Played { session, accepted }
+    progress
 }

@@ -1,5 +1,11 @@
-// Scripts: commands as words, as `V5 M V16 Q1`. A word is a letter and its argument: a number, `+` for the greatest value or position, or of a Value also `-` for the least.
+// Scripts: steps as words, as `V5 M V16 Q1 13*8`. A command is a letter and its argument: a number, `+` for the greatest value or position, or of a Value also `-` for the least. `13*8` is 13 rounds
+// of a Value of 8, a Mark and a Close of that position.
 use history::{Command, Position};
+
+pub enum Step {
+    Call(Command),
+    Rounds { turns: u32, value: i32 },
+}
 
 fn value_of(argument: &str) -> Option<i32> {
     match argument {
@@ -17,7 +23,7 @@ fn position_of(argument: &str) -> Option<Position> {
 }
 
 // The command that a word says, if it says one.
-pub fn command_of(word: &str) -> Option<Command> {
+fn command_of(word: &str) -> Option<Command> {
     if word == "M" {
         return Some(Command::Mark);
     }
@@ -29,4 +35,14 @@ pub fn command_of(word: &str) -> Option<Command> {
     }
     let argument = word.strip_prefix('C')?;
     position_of(argument).map(Command::Close)
+}
+
+// The step that a word says, if it says one.
+pub fn step_of(word: &str) -> Option<Step> {
+    let Some((turns, value)) = word.split_once('*') else {
+        return command_of(word).map(Step::Call);
+    };
+    let turns = turns.parse().ok()?;
+    let value = value.parse().ok()?;
+    Some(Step::Rounds { turns, value })
 }
