@@ -8,10 +8,9 @@ use lib.ListN.{length, length-append}
 use Rattle.history.specs.declared.Position.{Position}
 use Rattle.history.specs.Minimum.{Minimum}
 use Rattle.history.specs.declared.Refusal.{Refusal}
-use Rattle.std.specs.Prelude.{Some, Ok, Err, IsErrAnd}
+use Rattle.std.specs.Prelude.{Some, Ok, Err}
 use Rattle.history.specs.Minima.{stands_at, next, present_at, minimum}
 use Rattle.history.specs.Replies.{numbered, number_of, value_refusal, lent_refusal}
-use Rattle.history.specs.Answers.{Outcome, answered}
 use Rattle.history.proofs.Steps.{some_number, lent_due, lent_unopened, lent_other, lent_own, lent_none, last_due, earlier_free}
 use Rattle.deque.specs.Words.{Holds}
 use Rattle.deque.specs.Calls.{Arrived}
@@ -77,9 +76,8 @@ module _ (s : Window) (v : ℤ) (w : List ℕ) where
       there p first y r = step-refused p (length w) v (number_of why) (due_of_lem r ∙ sym e) (some_number why)
 
   -- by the lengths alone: 4 and 5
-  pub does_lent : (o : Outcome Window) (why : Refusal) → IsErrAnd o (λ (y : Refusal). y ≡ why) → number_of why ≡ lent_refusal s.words (length w) 0 → Does s v w w (answered s o)
-  does_lent (Ok x) why h e = absurd h
-  does_lent (Err y) why h e = rw h (does_refused why (sym (lent_due s.words (length w) (value_refusal s.present) (some_number why) (sym e))))
+  pub does_lent : (why : Refusal) → number_of why ≡ lent_refusal s.words (length w) 0 → Does s v w w (record { reply = Err why; session = s })
+  does_lent why e = does_refused why (sym (lent_due s.words (length w) (value_refusal s.present) (some_number why) (sym e)))
 
   -- A VALUE THAT IS ACCEPTED: the least is what the deque returned
   module _ (lent : 0 ≡ lent_refusal s.words (length w) 0) (none : 0 ≡ value_refusal s.present)
