@@ -16,38 +16,44 @@ CODE = "crates/history/src/lib.rt"
 STORED = "crates/played/stdout"
 STANDINGS = ["None", "Unmarked", "Marked", "Closed"]
 
-# the end of section 2 of source document 000, and then what document 01 adds: a sentence, the definition's cases for it, and the code's step
+# the end of section 2 of source document 000, and then what document 01 adds: a sentence, the definition's cases for it, and the code's arm
 ORDER = [
     (
         "Every time a Value command is issued this variable is set to the unmarked state, because the value of j changes.",
         [("Value", s) for s in STANDINGS],
-        "allowing(Standing::Unmarked)",
+        "(Event::Value, _) => allowing(Standing::Unmarked),",
     ),
     (
         "If a Mark command is processed when t is in this state then the sequence is valid, and t is set to marked.",
         [("Mark", "Unmarked")],
-        "allowing(Standing::Marked)",
+        "(Event::Mark, Standing::Unmarked) => allowing(Standing::Marked),",
     ),
     (
         "If t was already in the marked state then the sequence is invalid.",
         [("Mark", "Marked")],
-        "refusing(Refusal::AlreadyMarked, standing)",
+        "(Event::Mark, Standing::Marked) => refusing(Refusal::AlreadyMarked, standing),",
     ),
     (
         "If the Close command is called with i = j this variable changes to the closed state.",
         [("CloseOfPresent", s) for s in STANDINGS],
-        "allowing(Standing::Closed)",
+        "(Event::CloseOfPresent, _) => allowing(Standing::Closed),",
     ),
     (
         "Hence if a Mark command is issued when j is in the closed state the sequence is also invalid.",
         [("Mark", "Closed")],
-        "refusing(Refusal::AlreadyClosed, standing)",
+        "(Event::Mark, Standing::Closed) => refusing(Refusal::AlreadyClosed, standing),",
     ),
-    ("Mark, when the standing is none.", [("Mark", "None")], "refusing(Refusal::NothingToMark, standing)"),
-    ("the paper stays.", [("Other", s) for s in STANDINGS], "allowing(standing)"),
+    (
+        "Mark, when the standing is none.",
+        [("Mark", "None")],
+        "(Event::Mark, Standing::None) => refusing(Refusal::NothingToMark, standing),",
+    ),
+    (
+        "the paper stays.",
+        [("Other", s) for s in STANDINGS],
+        "(Event::Other, _) => allowing(standing),",
+    ),
 ]
-# what the code asks, one after the other
-TESTS = ["Event::Value", "Event::Mark", "Standing::Unmarked", "Standing::Marked", "Event::CloseOfPresent", "Event::Mark", "Standing::Closed"]
 SENTENCES = [sentence for sentence, _, _ in ORDER]
 CASES = [case for _, those, _ in ORDER for case in those]
 
@@ -87,15 +93,13 @@ def cases():
 
 
 def code_in_order():
-    """The code's steps stand each under its sentence."""
-    code, found = body(text(CODE), "by_section_2"), []
-    for line in code.splitlines():
-        if line.strip().startswith("//"):
-            found += quoted(line)
-        else:
-            found += re.findall(r"\b(?:allowing|refusing)\(.*?\)", line)
-    if found != [word for sentence, _, step in ORDER for word in [sentence, step]] or re.findall(r"if let (\w+::\w+) =", code) != TESTS:
-        wrong.append(f"{CODE}: the steps of `by_section_2` do not stand each under its sentence, in section 2's order")
+    """The code is one match, whose arms stand each under its sentence."""
+    code = body(text(CODE), "by_section_2")
+    arms, found = code.partition("\n{\n    match (event, standing) {\n")[2], []
+    for line in arms.splitlines():
+        found += quoted(line) if line.strip().startswith("//") else [line.strip()]
+    if found != [word for sentence, _, arm in ORDER for word in [sentence, arm]] + ["}"]:
+        wrong.append(f"{CODE}: the arms of `by_section_2` do not stand each under its sentence, in section 2's order")
     if "by_section_2 event standing }\n" not in code or "\nghost use Rattle.history.specs.StateVariable.{by_section_2};\n" not in text(CODE):
         wrong.append(f"{CODE}: the contract of `by_section_2` is not the definition of {DEFINITION}")
 

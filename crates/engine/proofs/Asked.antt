@@ -1,8 +1,8 @@
 -- The ways out of a Query and of a Close on an area of the opened length. A history's active marks stand at positions from 1 to the present one. Between these the words are asked: a
 -- position that they do not hold is not active, and one that they hold is, with its range minimum. A Close of it leaves the marks without it, and the count with one less.
 use mathlib.Core.Path.{◌≡◌, refl, sym, ap, subst, ◌∙◌}
-use mathlib.Core.List.{List, [], ◌∷◌}
-use Rattle.std.specs.Prelude.{Option, None, Some, Ok, ok_or}
+use mathlib.Core.List.{List}
+use Rattle.std.specs.Prelude.{Option, None, Some, Ok, Err, ok_or}
 use mathlib.Core.Bool.{Bool, true, false, cond, false≢true}
 use Prim.Native.Nat.{ℕ, ◌-◌, ◌<◌, ◌≤◌}
 use native.Mathlib.Omega.{arith}
@@ -12,9 +12,10 @@ use Rattle.history.specs.Minimum.{Minimum}
 use Rattle.history.specs.declared.Session.{Session}
 use Rattle.history.specs.declared.Command.{Command}
 use Rattle.history.specs.declared.Command.TheVariants.{Query, Close}
+use Rattle.history.specs.declared.Refusal.{Refusal}
 use Rattle.history.specs.declared.Refusal.TheVariants.{NotActive}
 use Rattle.history.specs.Minima.{stands_at, minimum}
-use Rattle.history.specs.Replies.{showing, refusal}
+use Rattle.history.specs.Replies.{showing, lent_refusal, refusal}
 use Rattle.history.specs.Standings.{event_of, transition_of}
 use Rattle.history.specs.Histories.{History, among, is_active}
 use Rattle.laws.proofs.Tests.{refuted}
@@ -23,15 +24,22 @@ use Rattle.history.proofs.Soundness.{rising_among, struck_one}
 use Rattle.ranges.specs.Holding.{Holds}
 use Rattle.ranges.specs.Calls.{LookedUp, Closed}
 use Rattle.engine.specs.Calls.{Does}
-use Rattle.engine.specs.Private.{refused_with, accepted_with, shown as outcome}
-use Rattle.engine.proofs.Doing.{ForEach, does_refused, does_accepted, own_of}
+use Rattle.engine.specs.Private.{refused_with, accepted_with}
+use Rattle.engine.proofs.Doing.{ForEach, does_refused, does_accepted, own_of, opened}
 
 -- a command that names a position: a Query or a Close
 pub data Names (i : Position) : Command → Type 0 where
   a_query : Names i (Query i)
   a_close : Names i (Close i)
 
-module _ (s : Session) (w : List ℕ) (i : Position) (z : s.words ≡ 0 → ⊥) (o : length w ≡ s.words) where
+module _ (s : Session) (w : List ℕ) (i : Position) (lent : 0 ≡ lent_refusal s.words (length w) 0) where
+  -- the session is opened, and the words are as many
+  z : s.words ≡ 0 → ⊥
+  z = (opened s.words (length w) lent).0
+
+  o : length w ≡ s.words
+  o = (opened s.words (length w) lent).1
+
   -- what is due to it goes by whether its position is active
   due_to : (c : Command) → Names i c → (b : Bool) → refusal s (length w) b c ≡ cond b 0 11
   due_to c a_query b = refusal_own s (length w) b (Query i) z o
@@ -83,21 +91,20 @@ module _ (s : Session) (w : List ℕ) (i : Position) (z : s.words ≡ 0 → ⊥)
           let x = is_shown (among i h.active) (minimum h.values i) (sym e ∙ shown h first k) in
           (due_to (Query i) a_query (is_active h (Query i)) ∙ ap (λ (c : Bool). cond c 0 11) x.0, ap showing x.1, refl, k))
 
-    -- so what is found is what a Query is told
-    pub query_found : 0 < i.0 → i.0 ≤ s.present.0 → Does s (Query i) w w (outcome s (ok_or r NotActive))
-    query_found l b = query_cases r refl
+    -- what is told of a position that the words may have
+    pub query_refused : (why : Refusal) → Err why ≡ ok_or r NotActive → Does s (Query i) w w (refused_with s why)
+    query_refused why e = go r refl e
       where
-        query_cases : (x : Option Minimum) → r ≡ x → Does s (Query i) w w (outcome s (ok_or x NotActive))
-        query_cases None e = query_lost e
-        query_cases (Some m) e = query_done m e l b
+        go : (x : Option Minimum) → r ≡ x → Err why ≡ ok_or x NotActive → Does s (Query i) w w (refused_with s why)
+        go None f g = let k : why ≡ NotActive = cc in rw k (query_lost f)
+        go (Some m) f g = absurd (let y : ◌≡◌ {A = ℕ} 0 1 = cc in omega arith)
 
-  -- A CLOSE where the session counts no active marks: no history's session has an active one then
-  pub close_empty : s.active ≡ 0 → Does s (Close i) w w (refused_with s NotActive)
-  close_empty f = inactive (Close i) a_close (λ h first _ t. empty h.active (sym (ap (λ (x : Session). x.active) t.session) ∙ f))
-    where
-      empty : (ps : List Position) → length ps ≡ 0 → among i ps ≡ false
-      empty [] l = refl
-      empty (p ∷ ps) l = absurd (omega arith)
+    pub query_found : (m : Minimum) → Ok m ≡ ok_or r NotActive → 0 < i.0 → i.0 ≤ s.present.0 → Does s (Query i) w w (record { reply = Ok (Some m); session = s })
+    query_found m e = go r refl e
+      where
+        go : (x : Option Minimum) → r ≡ x → Ok m ≡ ok_or x NotActive → 0 < i.0 → i.0 ≤ s.present.0 → Does s (Query i) w w (record { reply = Ok (Some m); session = s })
+        go None f g = absurd (let y : ◌≡◌ {A = ℕ} 0 1 = cc in omega arith)
+        go (Some n) f g = let k : m ≡ n = cc in rw k (query_done n f)
 
   module _ (after : List ℕ) (r : Bool) (q : Closed w after i r) where
     -- there is no mark to close

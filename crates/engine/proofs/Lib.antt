@@ -1,5 +1,4 @@
 pub mod Doing
-pub mod Openings
 pub mod Valued
 pub mod Marking
 pub mod Asked

@@ -18,7 +18,7 @@ use Rattle.history.specs.declared.Refusal.{Refusal}
 use Rattle.history.specs.declared.Refusal.TheVariants.{Full}
 use Rattle.history.specs.Minima.{stands_at}
 use Rattle.history.specs.Standings.{allowing, transition_of}
-use Rattle.history.specs.Replies.{mark_refusal, refusal}
+use Rattle.history.specs.Replies.{mark_refusal, lent_refusal, refusal}
 use Rattle.history.specs.Histories.{History, present_of, session_of, is_active, accept}
 use Rattle.history.specs.Sound.{Sound}
 use Rattle.history.proofs.Steps.{refusal_own, unmarked_only}
@@ -26,13 +26,20 @@ use Rattle.ranges.specs.Holding.{Holds}
 use Rattle.ranges.specs.Calls.{Marked}
 use Rattle.engine.specs.Calls.{Does}
 use Rattle.engine.specs.Private.{refused_with, accepted_with}
-use Rattle.engine.proofs.Doing.{does_due, does_full, does_accepted, own_of}
+use Rattle.engine.proofs.Doing.{does_due, does_full, does_accepted, own_of, opened}
 
 -- a transition with nothing due allows what comes after it
 pub allowed : {t u : Transition} → t ≡ u → t.due ≡ None → u ≡ allowing t.after
 allowed {t} e d = sym e ∙ (λ i. record { due = d i; after = t.after })
 
-module _ (s : Session) (w : List ℕ) (z : s.words ≡ 0 → ⊥) (o : length w ≡ s.words) where
+module _ (s : Session) (w : List ℕ) (lent : 0 ≡ lent_refusal s.words (length w) 0) where
+  -- the session is opened, and the words are as many
+  z : s.words ≡ 0 → ⊥
+  z = (opened s.words (length w) lent).0
+
+  o : length w ≡ s.words
+  o = (opened s.words (length w) lent).1
+
   -- what is due to a Mark goes by what the standing has against it
   due_by : (d : Option Refusal) → (transition_of Event.Mark s.standing).due ≡ d → (b : Bool) → refusal s (length w) b Mark ≡ mark_refusal s d
   due_by d e b = refusal_own s (length w) b Mark z o ∙ ap (mark_refusal s) e

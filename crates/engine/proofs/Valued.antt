@@ -12,16 +12,23 @@ use Rattle.history.specs.declared.Event.{Event}
 use Rattle.history.specs.declared.Refusal.{Refusal}
 use Rattle.history.specs.Minima.{stands_at, next}
 use Rattle.history.specs.Standings.{transition_of}
-use Rattle.history.specs.Replies.{number_of, value_refusal, refusal}
+use Rattle.history.specs.Replies.{number_of, value_refusal, lent_refusal, refusal}
 use Rattle.history.specs.Histories.{History, session_of, is_active, accept}
 use Rattle.history.proofs.Steps.{refusal_own, last_due}
 use Rattle.ranges.specs.Holding.{Holds}
 use Rattle.ranges.specs.Calls.{Valued}
 use Rattle.engine.specs.Calls.{Does}
 use Rattle.engine.specs.Private.{refused_with, accepted_with}
-use Rattle.engine.proofs.Doing.{does_due, does_accepted, own_of}
+use Rattle.engine.proofs.Doing.{does_due, does_accepted, own_of, opened}
 
-module _ (s : Session) (w : List ℕ) (v : ℤ) (z : s.words ≡ 0 → ⊥) (o : length w ≡ s.words) where
+module _ (s : Session) (w : List ℕ) (v : ℤ) (lent : 0 ≡ lent_refusal s.words (length w) 0) where
+  -- the session is opened, and the words are as many
+  z : s.words ≡ 0 → ⊥
+  z = (opened s.words (length w) lent).0
+
+  o : length w ≡ s.words
+  o = (opened s.words (length w) lent).1
+
   -- no position is left
   pub value_last : (k : Refusal) → number_of k ≡ value_refusal s.present → Does s (Value v) w w (refused_with s k)
   value_last k e = does_due (Value v) s w k (λ b. refusal_own s (length w) b (Value v) z o ∙ sym e)

@@ -1,11 +1,10 @@
 -- The contracts of the engine's private functions.
-use Rattle.std.specs.Prelude.{◌≡◌, Bool, true, false, ℕ, ◌<◌, ◌≤◌, ℤ, Some, None, Result, Ok, Err}
+use Rattle.std.specs.Prelude.{◌≡◌, Bool, true, false, ℕ, ◌<◌, ◌≤◌, ℤ, None, Ok, Err}
 use Rattle.history.specs.declared.Position.{Position}
 use Rattle.history.specs.declared.Standing.{Standing}
 use Rattle.history.specs.declared.Session.{Session}
 use Rattle.engine.specs.Answers.{Answer}
 use Rattle.history.specs.declared.Refusal.{Refusal}
-use Rattle.history.specs.Minimum.{Minimum}
 
 -- a refusal: the session comes back equal
 abbrev pub refused_with : Session → Refusal → Answer
@@ -17,16 +16,6 @@ accepted_with s present last active standing = record {
   reply = Ok None;
   session = record { words = s.words; limit = s.limit; present = present; last = last; active = active; standing = standing };
 }
-
--- `answered`: the session that an acceptance leaves, with nothing shown, or a refusal
-abbrev pub answered : Session → Result Session Refusal → Answer
-answered s (Ok after) = record { reply = Ok None; session = after }
-answered s (Err why) = refused_with s why
-
--- `find`: what is found is shown, and the session stays
-abbrev pub shown : Session → Result Minimum Refusal → Answer
-shown s (Ok least) = record { reply = Ok (Some least); session = s }
-shown s (Err why) = refused_with s why
 
 -- `within`: position i is none before the first or after the present one
 pub record Within (s : Session) (i : Position) (r : Bool) : Type 0 where

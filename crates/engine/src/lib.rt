@@ -5,11 +5,13 @@
 ghost use Rattle.std.specs.Prelude.{◌≡◌, ◌<◌, length};
 ghost use Rattle.history.specs.declared.Command.TheVariants.{Value, Mark, Query, Close};
 ghost use Rattle.history.specs.Minima.{stands_at};
+ghost use Rattle.history.specs.Answers.{answered};
 ghost use Rattle.history.specs.Histories.{limit_of};
+ghost use Rattle.engine.specs.Promises.{fresh_session};
 ghost use Rattle.engine.specs.Calls.{Opens, Does};
-ghost use Rattle.engine.specs.Private.{answered, shown, Within};
+ghost use Rattle.engine.specs.Private.{Within};
 
-use history::{Answer, Command, Event, Minimum, Position, Refusal, Session, Standing};
+use history::{Answer, Command, Event, Minimum, Outcome, Position, Refusal, Session, Standing};
 
 // A session with no opening: all its numbers are 0, as document 01 has it ("unopened just when its N is 0").
 const UNOPENED: Session = Session {
@@ -28,53 +30,39 @@ fn limit_of(n: usize) -> usize
     (n.saturating_sub(512) / 64).min(layout::MOST_MARKS)
 }
 
-// What is answered where an acceptance leaves a session and shows nothing. After a refusal the session comes back equal.
-fn answered(s: Session, outcome: Result<Session, Refusal>) -> Answer<Session>
-    ensures { result ≡ answered s outcome }
-{
-    match outcome {
-        Ok(session) => Answer {
-            reply: Ok(None),
-            session,
-        },
-        Err(why) => Answer {
-            reply: Err(why),
-            session: s,
-        },
-    }
-}
-
 // An area is opened, whatever its words hold. Only words 0 to 511 are written.
 pub fn open(area: &mut [u64]) -> Answer<Session>
     ensures { Opens area.old area.new result }
 {
+    Answer::of(UNOPENED, try_open(area))
+}
+
+// The session of an opened area, or why it is not opened.
+fn try_open(area: &mut [u64]) -> Outcome<Session>
+    ensures { Opens area.old area.new (answered (fresh_session 0 0) result) }
+{
     let n = area.len();
     if n < 576 {
-        return Answer {
-            reply: Err(Refusal::AreaTooShort),
-            session: UNOPENED,
-        };
+        return Err(Refusal::AreaTooShort);
     }
     ranges::open(area);
-    Answer {
-        reply: Ok(None),
-        session: Session {
-            words: n,
-            limit: limit_of(n),
-            ..UNOPENED
-        },
-    }
+    let after = Session {
+        words: n,
+        limit: limit_of(n),
+        ..UNOPENED
+    };
+    Ok((None, after))
 }
 
 // The next value of the stream: it lowers each active mark's range minimum that is above it.
 pub fn value(s: Session, area: &mut [u64], v: i32) -> Answer<Session>
     ensures { Does s (Value v) area.old area.new result }
 {
-    answered(s, take_value(s, area, v))
+    Answer::of(s, take_value(s, area, v))
 }
 
 // The session after a value, or why it is refused.
-fn take_value(s: Session, area: &mut [u64], v: i32) -> Result<Session, Refusal>
+fn take_value(s: Session, area: &mut [u64], v: i32) -> Outcome<Session>
     ensures { Does s (Value v) area.old area.new (answered s result) }
 {
     history::lent(s.words, area.len())?;
@@ -87,12 +75,13 @@ fn take_value(s: Session, area: &mut [u64], v: i32) -> Result<Session, Refusal>
         },
     );
     let transition = history::transition_of(Event::Value, s.standing);
-    Ok(Session {
+    let after = Session {
         present: next,
         last: v,
         standing: transition.after,
         ..s
-    })
+    };
+    Ok((None, after))
 }
 
 // The range minimum of a mark at the present position: the last value, there.
@@ -109,11 +98,11 @@ fn at_present(s: Session) -> Minimum
 pub fn mark(s: Session, area: &mut [u64]) -> Answer<Session>
     ensures { Does s Mark area.old area.new result }
 {
-    answered(s, take_mark(s, area))
+    Answer::of(s, take_mark(s, area))
 }
 
 // The session after a Mark, or why it is refused. Nothing is written before it is known to be accepted.
-fn take_mark(s: Session, area: &mut [u64]) -> Result<Session, Refusal>
+fn take_mark(s: Session, area: &mut [u64]) -> Outcome<Session>
     ensures { Does s Mark area.old area.new (answered s result) }
 {
     history::lent(s.words, area.len())?;
@@ -128,11 +117,12 @@ fn take_mark(s: Session, area: &mut [u64]) -> Result<Session, Refusal>
         return Err(Refusal::Full);
     }
     ranges::mark(area, s.active, s.present, at_present(s));
-    Ok(Session {
+    let after = Session {
         active: s.active + 1,
         standing: transition.after,
         ..s
-    })
+    };
+    Ok((None, after))
 }
 
 // Whether a position can be an active mark at all: none is before the first or after the present one.
@@ -146,32 +136,30 @@ fn within(s: Session, i: Position) -> bool
 pub fn query(s: Session, area: &[u64], i: Position) -> Answer<Session>
     ensures { Does s (Query i) area.now area.now result }
 {
-    Answer {
-        reply: find(s, area, i).map(Some),
-        session: s,
-    }
+    Answer::of(s, find(s, area, i))
 }
 
-// The range minimum since an active mark, or why the Query is refused.
-fn find(s: Session, area: &[u64], i: Position) -> Result<Minimum, Refusal>
-    ensures { Does s (Query i) area.now area.now (shown s result) }
+// The range minimum since an active mark, with the session as it is, or why the Query is refused.
+fn find(s: Session, area: &[u64], i: Position) -> Outcome<Session>
+    ensures { Does s (Query i) area.now area.now (answered s result) }
 {
     history::lent(s.words, area.len())?;
     if !within(s, i) {
         return Err(Refusal::NotActive);
     }
-    ranges::look_up(area, i).ok_or(Refusal::NotActive)
+    let least = ranges::look_up(area, i).ok_or(Refusal::NotActive)?;
+    Ok((Some(least), s))
 }
 
 // An active mark is forgotten.
 pub fn close(s: Session, area: &mut [u64], i: Position) -> Answer<Session>
     ensures { Does s (Close i) area.old area.new result }
 {
-    answered(s, take_close(s, area, i))
+    Answer::of(s, take_close(s, area, i))
 }
 
 // The session after a Close, or why it is refused.
-fn take_close(s: Session, area: &mut [u64], i: Position) -> Result<Session, Refusal>
+fn take_close(s: Session, area: &mut [u64], i: Position) -> Outcome<Session>
     ensures { Does s (Close i) area.old area.new (answered s result) }
 {
     history::lent(s.words, area.len())?;
@@ -185,11 +173,12 @@ fn take_close(s: Session, area: &mut [u64], i: Position) -> Result<Session, Refu
         return Err(Refusal::NotActive);
     }
     let transition = history::transition_of(history::close_event(s.present, i), s.standing);
-    Ok(Session {
+    let after = Session {
         active: s.active - 1,
         standing: transition.after,
         ..s
-    })
+    };
+    Ok((None, after))
 }
 
 // Any command. A match is plainest: what a command carries differs by its kind.

@@ -3,6 +3,7 @@ pub mod Minima
 pub mod Standings
 pub mod StateVariable
 pub mod Replies
+pub mod Answers
 pub mod Histories
 pub mod Sessions
 pub mod Sound

@@ -5,6 +5,7 @@
 ghost use Rattle.std.specs.Prelude.{◌≡◌, [], ◌∷◌, IfOk};
 ghost use Rattle.history.specs.declared.Command.TheVariants.{Close};
 ghost use Rattle.history.specs.Replies.{number_of, number_told, told, acceptances, value_refusal, lent_refusal};
+ghost use Rattle.history.specs.Answers.{answered};
 ghost use Rattle.history.specs.Minima.{next as next_of};
 ghost use Rattle.history.specs.Standings as Standings;
 ghost use Rattle.history.specs.Standings.{transition_of, event_of};
@@ -78,11 +79,32 @@ pub enum Refusal {
 // The reply to a command: an acceptance, with what it shows, if anything, or a refusal.
 pub type Reply = Result<Option<Minimum>, Refusal>;
 
+// What a call with a session comes to: what an acceptance shows, with the session that it leaves, or a refusal.
+pub type Outcome<S> = Result<(Option<Minimum>, S), Refusal>;
+
 // A reply, with the session after it: the engine's, or a window's.
 #[derive(Clone, Copy)]
 pub struct Answer<S> {
     pub reply: Reply,
     pub session: S,
+}
+
+impl<S: Copy> Answer<S> {
+    // What a call with the session `before` answers. After a refusal the session is the one that came in.
+    pub fn of(before: S, outcome: Outcome<S>) -> Answer<S>
+        ensures { result ≡ answered before outcome }
+    {
+        match outcome {
+            Ok((shown, session)) => Answer {
+                reply: Ok(shown),
+                session,
+            },
+            Err(why) => Answer {
+                reply: Err(why),
+                session: before,
+            },
+        }
+    }
 }
 
 // What a command is to the present position's standing: a "step" of document 02, point 4.
@@ -95,6 +117,7 @@ pub enum Event {
 }
 
 // The refusal that is due to an event, if one is, and the standing after its acceptance. Where a refusal is due the standing stays.
+// It is no `Result`, since both are told of every event at every standing: of a refused event, too, the standing, which is proved to stay.
 #[derive(Clone, Copy, PartialEq, Eq)]
 pub struct Transition {
     pub due: Option<Refusal>,
@@ -185,43 +208,32 @@ fn refusing(why: Refusal, standing: Standing) -> Transition
 }
 
 // The standing by section 2 of source document 000, where it is "a state variable t that is associated with the current position j",
-// sentence by sentence in that order: Value resets, Mark tests marked, Close of the present position, then the closed test. So a Mark is
-// asked about twice, before the Close and behind it. What section 2 does not say stands last, and is document 01's.
+// sentence by sentence in that order, which is the order of the arms: Value resets, Mark tests marked, Close of the present position, then
+// the closed test. So a Mark is asked about before the Close and behind it. What section 2 does not say stands last, and is document 01's.
 fn by_section_2(event: Event, standing: Standing) -> Transition
     ensures { result ≡ by_section_2 event standing }
 {
-    // "Every time a Value command is issued this variable is set to the unmarked state, because the value of j changes."
-    if let Event::Value = event {
-        return allowing(Standing::Unmarked);
-    }
-    if let Event::Mark = event {
+    match (event, standing) {
+        // "Every time a Value command is issued this variable is set to the unmarked state, because the value of j changes."
+        (Event::Value, _) => allowing(Standing::Unmarked),
         // "If a Mark command is processed when t is in this state then the sequence is valid, and t is set to marked."
-        if let Standing::Unmarked = standing {
-            return allowing(Standing::Marked);
-        }
+        (Event::Mark, Standing::Unmarked) => allowing(Standing::Marked),
         // "If t was already in the marked state then the sequence is invalid.": 8
-        if let Standing::Marked = standing {
-            return refusing(Refusal::AlreadyMarked, standing);
-        }
-    }
-    // "If the Close command is called with i = j this variable changes to the closed state."
-    if let Event::CloseOfPresent = event {
-        return allowing(Standing::Closed);
-    }
-    if let Event::Mark = event {
+        (Event::Mark, Standing::Marked) => refusing(Refusal::AlreadyMarked, standing),
+        // "If the Close command is called with i = j this variable changes to the closed state."
+        (Event::CloseOfPresent, _) => allowing(Standing::Closed),
         // "Hence if a Mark command is issued when j is in the closed state the sequence is also invalid.": 9
-        if let Standing::Closed = standing {
-            return refusing(Refusal::AlreadyClosed, standing);
-        }
-        // The standing that is left is none. Document 01, 7: "Mark, when the standing is none."
-        return refusing(Refusal::NothingToMark, standing);
+        (Event::Mark, Standing::Closed) => refusing(Refusal::AlreadyClosed, standing),
+        // Document 01, 7: "Mark, when the standing is none."
+        (Event::Mark, Standing::None) => refusing(Refusal::NothingToMark, standing),
+        // Any other command, a Query or a Close of another position, leaves the standing. Document 01, of a Query: "the paper stays."
+        (Event::Other, _) => allowing(standing),
     }
-    // Any other command, a Query or a Close of another position, leaves the standing. Document 01, of a Query: "the paper stays."
-    allowing(standing)
 }
 
 // What is due to an event by the standing, and the standing after its acceptance. The engine's Value, Mark and Close call this; to a Value
 // and a Close nothing is due at any standing. Nowhere else does the engine choose or test one, but for the opening's, `Standing::None`.
+#[tactic(auto, using(crate::proofs::StateVariable::as_document_01))]
 pub fn transition_of(event: Event, standing: Standing) -> Transition
     ensures { result ≡ transition_of event standing }
 {

@@ -32,7 +32,3 @@ module _ (p : Position) (width : ℕ) (w : 1 ≤ width) where
       (λ (l : p.0 < width). inl (ap (λ (n : ℕ). record { 0 = n }) (omega arith)))
       (λ (l : width ≤ p.0). inr (ap (λ (n : ℕ). record { 0 = n }) (omega arith)))
       (lt_or_ge p.0 width)
-
--- before the first value it is position 1
-pub first_oldest : (width : ℕ) → oldest (record { 0 = 0 }) width ≡ record { 0 = 1 }
-first_oldest width = ap (λ (n : ℕ). record { 0 = n }) (omega arith)

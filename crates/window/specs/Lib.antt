@@ -4,5 +4,4 @@ pub mod Promises
 pub mod Claim
 pub mod Keeping
 pub mod Calls
-pub mod Private
 pub mod Examples

@@ -4,12 +4,13 @@
 
 ghost use Rattle.std.specs.Prelude.{◌≡◌, IfOk};
 ghost use Rattle.history.specs.Replies.{number_told};
+ghost use Rattle.history.specs.Answers.{answered};
 ghost use Rattle.history.specs.Minima.{next};
 ghost use Rattle.window.specs.Windows.{opening_refusal};
+ghost use Rattle.window.specs.Promises.{window_of};
 ghost use Rattle.window.specs.Calls.{Opens, Does};
-ghost use Rattle.window.specs.Private.{due_of};
 
-use history::{Answer, Minimum, Position, Refusal};
+use history::{Answer, Minimum, Outcome, Position, Refusal};
 
 // The window's session: N, W and the present position. It is unopened just when N is 0.
 #[derive(Clone, Copy, PartialEq, Eq)]
@@ -46,54 +47,44 @@ fn serve(n: usize, width: usize) -> Result<(), Refusal>
 pub fn open(area: &mut [u64], width: usize) -> Answer<Window>
     ensures { Opens width area.old area.new result }
 {
-    let n = area.len();
-    match serve(n, width) {
-        Err(why) => Answer {
-            reply: Err(why),
-            session: UNOPENED,
-        },
-        Ok(()) => {
-            deque::clear(area);
-            Answer {
-                reply: Ok(None),
-                session: Window {
-                    words: n,
-                    width,
-                    present: Position(0),
-                },
-            }
-        }
-    }
+    Answer::of(UNOPENED, try_open(area, width))
 }
 
-// The position that a value gets where n words are lent, or why it is refused.
-fn entered(s: Window, n: usize) -> Result<Position, Refusal>
-    ensures refused { number_told result ≡ due_of s n }
-    ensures next { IfOk result (λ place. place ≡ next s.present) }
+// The session of an opened window, or why none is opened.
+fn try_open(area: &mut [u64], width: usize) -> Outcome<Window>
+    ensures { Opens width area.old area.new (answered (window_of 0 0 0) result) }
 {
-    history::lent(s.words, n)?;
-    s.present.next()
+    let n = area.len();
+    serve(n, width)?;
+    deque::clear(area);
+    let after = Window {
+        words: n,
+        width,
+        present: Position(0),
+    };
+    Ok((None, after))
 }
 
 // The next value of the stream. The one that is W older leaves, and the least of those in the window is told. After a refusal the session comes back equal.
 pub fn value(s: Window, area: &mut [u64], v: i32) -> Answer<Window>
     ensures { Does s v area.old area.new result }
 {
-    match entered(s, area.len()) {
-        Err(why) => Answer {
-            reply: Err(why),
-            session: s,
+    Answer::of(s, take_value(s, area, v))
+}
+
+// The least after a value and the session then, or why the value is refused.
+fn take_value(s: Window, area: &mut [u64], v: i32) -> Outcome<Window>
+    ensures { Does s v area.old area.new (answered s result) }
+{
+    history::lent(s.words, area.len())?;
+    let next = s.present.next()?;
+    let least = deque::arrive(
+        area,
+        s.width,
+        Minimum {
+            value: v,
+            place: next,
         },
-        Ok(next) => Answer {
-            reply: Ok(Some(deque::arrive(
-                area,
-                s.width,
-                Minimum {
-                    value: v,
-                    place: next,
-                },
-            ))),
-            session: Window { present: next, ..s },
-        },
-    }
+    );
+    Ok((Some(least), Window { present: next, ..s }))
 }

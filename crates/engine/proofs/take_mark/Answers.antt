@@ -3,36 +3,27 @@
 -- makes of the session.
 use mathlib.Core.Path.{refl, sym, ap, ◌∙◌}
 use native.Mathlib.Omega.{arith}
-use lib.ListN.{length}
 use Rattle.std.proofs.Common.{rules}
-use Rattle.std.proofs.lemmas.Result.{err_from_is_err_and}
+use Rattle.history.proofs.Answers.{handed_on}
 use Rattle.history.specs.declared.Transition.{Transition}
-use Rattle.engine.proofs.Doing.{does_lent, opened, does_with}
+use Rattle.engine.proofs.Doing.{does_lent, does_with}
 use Rattle.engine.proofs.Marking.{allowed, mark_refused, mark_full, mark_foreign, mark_done}
 use Rattle.engine.proofs.take_mark.Goals as goal
 
 pub returns-in_err-lent : goal.returns-in_err-lent
-returns-in_err-lent c =
-    let p = err_from_is_err_and c.from_residual.result c.from_residual.ensures.1 in
-    rw (p.1, p.2) (does_lent _ _ _ _ c.in_err-lent.ensures)
+returns-in_err-lent c = rw (handed_on _ _ c.from_residual.ensures.1) (does_lent _ _ _ _ c.in_err-lent.ensures)
 
 pub returns-in-Some : goal.returns-in-Some
-returns-in-Some c =
-    let l = opened c.args.s.words (length c.args.area.now) c.in_ok-lent.ensures in
-    mark_refused _ _ l.0 l.1 _ (sym (ap (λ (x : Transition). x.due) c.transition_of-transition.ensures) ∙ c.in-Some.is)
+returns-in-Some c = mark_refused _ _ c.in_ok-lent.ensures _ (sym (ap (λ (x : Transition). x.due) c.transition_of-transition.ensures) ∙ c.in-Some.is)
 
 pub returns-then-s : goal.returns-then-s
-returns-then-s c =
-    let l = opened c.args.s.words (length c.args.area.now) c.in_ok-lent.ensures in
-    mark_full _ _ l.0 l.1 _ (allowed c.transition_of-transition.ensures c.in_default.is) (omega arith)
+returns-then-s c = mark_full _ _ c.in_ok-lent.ensures _ (allowed c.transition_of-transition.ensures c.in_default.is) (omega arith)
 
 pub returns-then-s-ge-MOST_MARKS : goal.returns-then-s-ge-MOST_MARKS
 returns-then-s-ge-MOST_MARKS c =
-    let l = opened c.args.s.words (length c.args.area.now) c.in_ok-lent.ensures in
-    mark_foreign _ _ l.0 l.1 _ (allowed c.transition_of-transition.ensures c.in_default.is) (omega arith) (omega arith)
+    mark_foreign _ _ c.in_ok-lent.ensures _ (allowed c.transition_of-transition.ensures c.in_default.is) (omega arith) (omega arith)
 
 pub returns : goal.returns
 returns c =
-    let l = opened c.args.s.words (length c.args.area.now) c.in_ok-lent.ensures in
     does_with refl (search rules) refl refl
-    (mark_done _ _ l.0 l.1 _ (allowed c.transition_of-transition.ensures c.in_default.is) _ (omega arith) (omega arith) (rw c.at_present.ensures at c.mark.ensures))
+    (mark_done _ _ c.in_ok-lent.ensures _ (allowed c.transition_of-transition.ensures c.in_default.is) _ (omega arith) (omega arith) (rw c.at_present.ensures at c.mark.ensures))
