@@ -15,7 +15,7 @@ ghost use Rattle.blocks.specs.Private.{PlaceOf, shifted, lower_of, OfBlocks, Cov
 use history::{RangeMinimum, Refusal};
 
 // A place in a take, counted from 0.
-#[derive(Clone, Copy, PartialEq, Eq, PartialOrd, Ord)]
+#[derive(Clone, Copy, Default, PartialEq, Eq, PartialOrd, Ord)]
 pub struct Offset(pub usize);
 
 // The least value of a range, and where it stands.
@@ -207,8 +207,8 @@ pub fn build(take: &[i32], index: &mut [i32]) -> Result<(), Refusal>
     if index.len() != block_count(take.len()) {
         return Err(Refusal::OtherIndexLength);
     }
-    for (b, part) in take.chunks(64).enumerate() {
-        index[b] = least_value(part);
+    for (b, entry) in index.iter_mut().enumerate() {
+        *entry = least_value(block(take, b));
     }
     Ok(())
 }
