@@ -52,7 +52,8 @@ impl Ring {
         requires { self.slots < length area.now }
         ensures { result ≡ gone area.now self.slots self.front place }
     {
-        area[1 + self.front] % 4294967296 + self.slots as u64 <= u64::from(place.0)
+        let front = packing::unpack(area[1 + self.front]).place;
+        u64::from(front.0) + self.slots as u64 <= u64::from(place.0)
     }
 
     // The slot behind the front's: after the last one comes the first.
