@@ -57,13 +57,9 @@ fn least_value(values: &[i32]) -> i32
     requires { 0 < length values.now }
     ensures { result ≡ (minimum_from values.now 0).value }
 {
-    let mut least = values[0];
-    for &v in values {
-        if takes_over(v, least) {
-            least = v;
-        }
-    }
-    least
+    values.iter().fold(values[0], |least, v| {
+        if takes_over(*v, least) { *v } else { least }
+    })
 }
 
 // The same of any values: of none, nothing.
