@@ -8,14 +8,14 @@ ghost use Rattle.std.specs.List.{position};
 ghost use Rattle.std.specs.Ordering.{int_eq};
 ghost use Rattle.history.specs.Minima.{takes_over};
 ghost use Rattle.history.specs.Replies.{number_told};
-ghost use Rattle.blocks.specs.Takes.{minimum_from, block_of, block_count, blocks_before, search_refusal, least_of};
+ghost use Rattle.blocks.specs.Takes.{minimum_from, block_of, block_count, blocks_before, build_refusal, search_refusal, least_of};
 ghost use Rattle.blocks.specs.Calls.{Builds, Searches, Stretches};
 ghost use Rattle.blocks.specs.Private.{PlaceOf, shifted, lower_of, OfBlocks, Covers};
 
 use history::{RangeMinimum, Refusal};
 
 // A place in a take, counted from 0.
-#[derive(Clone, Copy, PartialEq, Eq, PartialOrd, Ord)]
+#[derive(Clone, Copy, Default, PartialEq, Eq, PartialOrd, Ord)]
 pub struct Offset(pub usize);
 
 // The least value of a range, and where it stands.
@@ -57,13 +57,9 @@ fn least_value(values: &[i32]) -> i32
     requires { 0 < length values.now }
     ensures { result ≡ (minimum_from values.now 0).value }
 {
-    let mut least = values[0];
-    for &v in values {
-        if takes_over(v, least) {
-            least = v;
-        }
-    }
-    least
+    values.iter().fold(values[0], |least, v| {
+        if takes_over(*v, least) { *v } else { least }
+    })
 }
 
 // The same of any values: of none, nothing.
@@ -187,13 +183,21 @@ impl<'a> Indexed<'a> {
     }
 }
 
-// What is due to a search of a take of so many values, with an index of so many entries, from `i` to `j`: 15 for an index of another length, then 14 for a range that the take does not have.
-pub fn due(values: usize, entries: usize, i: usize, j: usize) -> Result<(), Refusal>
-    ensures { number_told result ≡ search_refusal values entries i j }
+// What is due for the length of an index of so many entries, beside a take of so many values: 15, where it does not fit.
+fn fit(values: usize, entries: usize) -> Result<(), Refusal>
+    ensures { number_told result ≡ build_refusal values entries }
 {
     if entries != block_count(values) {
         return Err(Refusal::OtherIndexLength);
     }
+    Ok(())
+}
+
+// What is due to a search of a take of so many values, with an index of so many entries, from `i` to `j`: 15 for an index of another length, then 14 for a range that the take does not have.
+pub fn due(values: usize, entries: usize, i: usize, j: usize) -> Result<(), Refusal>
+    ensures { number_told result ≡ search_refusal values entries i j }
+{
+    fit(values, entries)?;
     if j < i || values <= j {
         return Err(Refusal::RangeOutOfTake);
     }
@@ -204,11 +208,9 @@ pub fn due(values: usize, entries: usize, i: usize, j: usize) -> Result<(), Refu
 pub fn build(take: &[i32], index: &mut [i32]) -> Result<(), Refusal>
     ensures { Builds take.now index.old index.new result }
 {
-    if index.len() != block_count(take.len()) {
-        return Err(Refusal::OtherIndexLength);
-    }
-    for (b, part) in take.chunks(64).enumerate() {
-        index[b] = least_value(part);
+    fit(take.len(), index.len())?;
+    for (b, entry) in index.iter_mut().enumerate() {
+        *entry = least_value(block(take, b));
     }
     Ok(())
 }

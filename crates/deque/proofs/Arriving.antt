@@ -18,7 +18,7 @@ use Rattle.deque.specs.Suffixes.{start_of, SuffixMinima}
 use Rattle.packing.specs.Packing.{place_in, unpacked}
 use Rattle.deque.specs.Words.{front, count, entry_word, entry_at, Twice, Holds}
 use Rattle.deque.specs.declared.Ring.{Ring}
-use Rattle.deque.specs.Calls.{Cleared, SlotAfter, Alone, Put, Comes, Given, Arrived}
+use Rattle.deque.specs.Calls.{Cleared, SlotAfter, Alone, Put, Comes, Arrived}
 use Rattle.deque.specs.Left.{gone, Rest, Stayed, NoneStayed, Left}
 use Rattle.deque.proofs.Suffixes.{none_yet, from, few, leaves, stays, comes}
 
@@ -105,44 +105,43 @@ module _ {w : List ℕ} {slots : ℕ} {values : List ℤ} {i oldest place : Posi
     })
 
 -- the words after the value has come, from what is left of the suffix minima
-module _ {w : List ℕ} {slots : ℕ} {values : List ℤ} {i oldest place : Position} {later : ℤ} (q : Holds w slots values i) (c : Comes values i oldest slots place) (word : ℕ)
-    (u : unpacked word ≡ stands_at later place) where
-  newest : unpacked word ≡ stands_at later (next (present_at values))
-  newest = u ∙ ap (stands_at later) c.at
+module _ (m : Minimum) {w : List ℕ} {slots : ℕ} {values : List ℤ} {i oldest : Position} (q : Holds w slots values i) (c : Comes values i oldest slots m.place) where
+  newest : m ≡ stands_at m.value (next (present_at values))
+  newest = ap (stands_at m.value) c.at
 
-  holds_more : (v : List ℕ) → length v ≡ length w → front v < slots → SuffixMinima (values ++ (later ∷ [])) oldest (count v) (entry_at v (front v)) → Twice v slots (front v) (count v)
-      → Holds v slots (values ++ (later ∷ [])) oldest
+  holds_more : (v : List ℕ) → length v ≡ length w → front v < slots → SuffixMinima (values ++ (m.value ∷ [])) oldest (count v) (entry_at v (front v)) → Twice v slots (front v) (count v)
+      → Holds v slots (values ++ (m.value ∷ [])) oldest
   holds_more v l f s t = record {
     room = record { some = q.room.some; few = q.room.few; wide = omega (arith, l, q.room.wide) };
     within = f;
-    fits = omega (arith, at q c, c.wide, length-append values (later ∷ []));
+    fits = omega (arith, at q c, c.wide, length-append values (m.value ∷ []));
     holds = s;
     twice = t;
   }
 
   -- it is the only entry
-  alone_holds : {v : List ℕ} {r : ℕ} (entry : ℕ → Minimum) → SuffixMinima values oldest 0 entry → Alone w v word r
-      → let more : List ℤ = values ++ (later ∷ []) in Holds v slots more oldest × (unpacked r ≡ minimum more oldest)
+  alone_holds : {v : List ℕ} {r : Minimum} (entry : ℕ → Minimum) → SuffixMinima values oldest 0 entry → Alone w v m r
+      → let more : List ℤ = values ++ (m.value ∷ []) in Holds v slots more oldest × (r ≡ minimum more oldest)
   alone_holds {v} entry s a =
       let f : front v ≡ 0 = omega (arith, a.head) in
       let n : count v ≡ 1 = omega (arith, a.head) in
-      let e : entry_at v (front v) 0 ≡ stands_at later (next (present_at values)) = ap (λ (x : ℕ). unpacked (get_or v x 0)) (omega (arith, f)) ∙ ap unpacked a.new ∙ newest in
-      let m = comes s later 0 (entry_at v (front v)) (omega arith) (λ l. absurd (omega arith)) (λ k x. absurd (omega arith)) (λ k l. absurd (omega arith)) e (count v) n in (
-        holds_more v a.long (omega (arith, f, q.room.some)) m (λ k l b. absurd (omega (arith, f, n, q.room.some))),
-        ap unpacked a.returns ∙ newest ∙ sym e ∙ m.minima 0 (omega (arith, n)),
+      let e : entry_at v (front v) 0 ≡ m = ap (λ (x : ℕ). unpacked (get_or v x 0)) (omega (arith, f)) ∙ ap unpacked a.new ∙ a.faithful in
+      let held = comes s m.value 0 (entry_at v (front v)) (omega arith) (λ l. absurd (omega arith)) (λ k x. absurd (omega arith)) (λ k l. absurd (omega arith)) (e ∙ newest) (count v) n in (
+        holds_more v a.long (omega (arith, f, q.room.some)) held (λ k l b. absurd (omega (arith, f, n, q.room.some))),
+        a.returns ∙ sym e ∙ held.minima 0 (omega (arith, n)),
       )
 
   -- it is put behind those that it does not take over from
-  put_holds : {v : List ℕ} {f n r : ℕ} → Stayed w slots values oldest f n → n < slots → Put w v slots f n later word r
-      → let more : List ℤ = values ++ (later ∷ []) in Holds v slots more oldest × (unpacked r ≡ minimum more oldest)
+  put_holds : {v : List ℕ} {f n : ℕ} {r : Minimum} → Stayed w slots values oldest f n → n < slots → Put w v slots f n m r
+      → let more : List ℤ = values ++ (m.value ∷ []) in Holds v slots more oldest × (r ≡ minimum more oldest)
   put_holds {v} {f} s l a =
       let small = q.room.few in
       let inside = a.found.within in
       let e : front v ≡ f = omega (arith, a.head) in
       let n : count v ≡ suc a.k = omega (arith, a.head) in
       let older : (j : ℕ) → j < a.k → get_or v (1 + f + j) 0 ≡ get_or w (1 + f + j) 0 = λ j b. a.kept (1 + f + j) (omega arith) (λ x. omega arith) (λ x y. omega arith) in
-      let m = comes s.holds later a.k (entry_at v f) inside a.found.over a.found.under (λ j b. ap unpacked (older j b)) (ap unpacked a.new ∙ newest) (count v) n in (
-        holds_more v a.long (omega (arith, e, s.slot)) (rw e m)
+      let held = comes s.holds m.value a.k (entry_at v f) inside a.found.over a.found.under (λ j b. ap unpacked (older j b)) (ap unpacked a.new ∙ a.faithful ∙ newest) (count v) n in (
+        holds_more v a.long (omega (arith, e, s.slot)) (rw e held)
             (rw e (λ j b x.
             let y : j ≤ a.k = omega (arith, n) in
             ⊎_elim
@@ -150,7 +149,7 @@ module _ {w : List ℕ} {slots : ℕ} {values : List ℤ} {i oldest place : Posi
             (λ (b : j < a.k).
             a.kept (1 + f + j - slots) (omega arith) (λ y. omega (arith, s.slot)) (λ y z. omega arith) ∙ s.twice j (omega arith) x ∙ sym (older j b))
             (eq-or-lt_of_le y))),
-        ap unpacked (a.returns ∙ ap (λ (x : ℕ). get_or v x 0) (omega arith)) ∙ m.minima 0 (omega (arith, n)),
+        a.returns ∙ ap (λ (x : ℕ). unpacked (get_or v x 0)) (omega arith) ∙ held.minima 0 (omega (arith, n)),
       )
 
 -- WHAT IS LEFT of the header's entries
@@ -188,26 +187,22 @@ module _ {w : List ℕ} {slots : ℕ} {place : Position} where
         some = λ other x. let same : ring ≡ other = cc in rw (← same) ((rest.some ring e).0, l, λ values i oldest q c. some_left (rest.some ring e).1 q c);
       }
 
--- THE VALUE IS GIVEN: its word is that of the only entry, where none is left; else it is put behind others
-module _ {w v : List ℕ} {slots : ℕ} {later : ℤ} {place : Position} {word r : ℕ} (some : 0 < slots) {left : Option Ring} (l : Left w slots place left) where
-  pub given_alone : left ≡ None → Alone w v word r → Given w v slots later place word r
-  given_alone e a = record {
+-- THE VALUE ARRIVES: it is the only entry, where none is left; else it is put behind others
+module _ {w v : List ℕ} {slots : ℕ} {m r : Minimum} (some : 0 < slots) {left : Option Ring} (l : Left w slots m.place left) where
+  pub arrived_alone : left ≡ None → Alone w v m r → Arrived w v slots m r
+  arrived_alone e a = record {
     long = a.long;
     kept = λ i l. a.kept i (omega arith);
-    arrives = λ values i oldest q c u. let x = l.none e values i oldest q c in alone_holds q c word u x.0 x.1 a;
+    arrives = λ values i oldest q c. let x = l.none e values i oldest q c in alone_holds m q c x.0 x.1 a;
   }
 
-  pub given_put : (rest : Ring) → left ≡ Some rest → Put w v rest.slots rest.front rest.count later word r → Given w v slots later place word r
-  given_put rest e b =
+  pub arrived_put : (rest : Ring) → left ≡ Some rest → Put w v rest.slots rest.front rest.count m r → Arrived w v slots m r
+  arrived_put rest e b =
       let x = l.some rest e in
       let slot : rest.front < slots = omega (arith, rest.within, x.0) in
-      let a : Put w v slots rest.front rest.count later word r = rw x.0 at b in
+      let a : Put w v slots rest.front rest.count m r = rw x.0 at b in
       record {
         long = a.long;
         kept = λ i b. a.kept i (omega arith) (λ y. omega (arith, slot, a.found.within)) (λ y z. omega (arith, slot, a.found.within));
-        arrives = λ values i oldest q c u. put_holds q c word u (x.2 values i oldest q c) x.1 a;
+        arrives = λ values i oldest q c. put_holds m q c (x.2 values i oldest q c) x.1 a;
       }
-
--- in words that have room the value's word is given
-pub arrived : {w v : List ℕ} {slots : ℕ} {m f : Minimum} {word r : ℕ} → unpacked word ≡ m → f ≡ unpacked r → Given w v slots m.value m.place word r → Arrived w v slots m f
-arrived u e g = record { long = g.long; kept = g.kept; arrives = λ values i oldest q c. let x = g.arrives values i oldest q c u in (x.0, e ∙ x.1) }

@@ -2,8 +2,8 @@
 use Rattle.std.specs.Prelude.{◌≡◌, true, false, List, [], ◌∷◌, ◌++◌, ◌⊎◌, ℕ, ◌+◌, ◌*◌, ◌-◌, ◌<◌, ◌≤◌, ℤ, length, get_or}
 use Rattle.history.specs.declared.Position.{Position}
 use Rattle.history.specs.Minimum.{Minimum}
-use Rattle.history.specs.Minima.{takes_over, stands_at, next, present_at, minimum}
-use Rattle.packing.specs.Packing.{unpacked}
+use Rattle.history.specs.Minima.{takes_over, next, present_at, minimum}
+use Rattle.packing.specs.Packing.{packed, unpacked, Faithful}
 use Rattle.deque.specs.Words.{entry_at, Room, Holds}
 
 -- `clear`: no entries, as before a stream's first value, in words that have room
@@ -22,13 +22,14 @@ pub record Boundary (w : List ℕ) (front n : ℕ) (v : ℤ) (r : ℕ) : Type 0 
 abbrev pub SlotAfter : (slots front r : ℕ) → Type 0
 SlotAfter slots front r = ((r ≡ front + 1) × (r < slots)) ⊎ ((r ≡ 0) × (front + 1 ≡ slots))
 
--- `alone`: the word is that of the only entry
-pub record Alone (w v : List ℕ) (word r : ℕ) : Type 0 where
+-- `alone`: m is the only entry, and reads back from its word
+pub record Alone (w v : List ℕ) (m r : Minimum) : Type 0 where
   pub long : length v ≡ length w
   pub head : get_or v 0 0 ≡ 1
-  pub new : get_or v 1 0 ≡ word
+  pub faithful : Faithful m
+  pub new : get_or v 1 0 ≡ packed m
   pub kept : (i : ℕ) → 1 < i → get_or v i 0 ≡ get_or w i 0
-  pub returns : r ≡ word
+  pub returns : r ≡ m
 
 -- `repeat`: a word that stands beyond the slots, at an index, stands once more
 pub record Repeated (w v : List ℕ) (slots at word : ℕ) : Type 0 where
@@ -36,16 +37,17 @@ pub record Repeated (w v : List ℕ) (slots at word : ℕ) : Type 0 where
   pub again : slots < at → get_or v (at - slots) 0 ≡ word
   pub kept : (i : ℕ) → (slots < at → i ≡ at - slots → ⊥) → get_or v i 0 ≡ get_or w i 0
 
--- `put`: the word is that of the entry at k, which is the last then; beyond the slots it stands once more
-pub record Put (w v : List ℕ) (slots front count : ℕ) (later : ℤ) (word r : ℕ) : Type 0 where
+-- `put`: m is the entry at k, which is the last then, and reads back from its word; beyond the slots the word stands once more
+pub record Put (w v : List ℕ) (slots front count : ℕ) (m r : Minimum) : Type 0 where
   pub k : ℕ
-  pub found : Boundary w front count later k
+  pub found : Boundary w front count m.value k
   pub long : length v ≡ length w
   pub head : get_or v 0 0 ≡ front * 65536 + k + 1
-  pub new : get_or v (1 + front + k) 0 ≡ word
-  pub again : slots ≤ front + k → get_or v (1 + front + k - slots) 0 ≡ word
+  pub faithful : Faithful m
+  pub new : get_or v (1 + front + k) 0 ≡ packed m
+  pub again : slots ≤ front + k → get_or v (1 + front + k - slots) 0 ≡ packed m
   pub kept : (i : ℕ) → 0 < i → (i ≡ 1 + front + k → ⊥) → (slots ≤ front + k → i ≡ 1 + front + k - slots → ⊥) → get_or v i 0 ≡ get_or w i 0
-  pub returns : r ≡ get_or v (1 + front) 0
+  pub returns : r ≡ unpacked (get_or v (1 + front) 0)
 
 -- the value m comes to words that hold the suffix minima from position i on. From then on they are those from `oldest` on, which is i or the next position, is not behind the value's, and has
 -- no more positions from it on than slots: as many, where any value has left
@@ -55,13 +57,6 @@ pub record Comes (values : List ℤ) (i oldest : Position) (slots : ℕ) (place 
   pub before : oldest.0 ≤ place.0
   pub wide : place.0 < oldest.0 + slots
   pub tight : (oldest.0 ≡ 1) ⊎ (oldest.0 + slots ≡ place.0 + 1)
-
--- `give`: the same in words, of an entry's word
-pub record Given (w v : List ℕ) (slots : ℕ) (later : ℤ) (place : Position) (word r : ℕ) : Type 0 where
-  pub long : length v ≡ length w
-  pub kept : (i : ℕ) → 2 * slots ≤ i → get_or v i 0 ≡ get_or w i 0
-  pub arrives : (values : List ℤ) (i oldest : Position) → Holds w slots values i → Comes values i oldest slots place → unpacked word ≡ stands_at later place
-      → let more : List ℤ = values ++ (later ∷ []) in Holds v slots more oldest × (unpacked r ≡ minimum more oldest)
 
 -- `arrive`: the value m comes
 pub record Arrived (w v : List ℕ) (slots : ℕ) (m r : Minimum) : Type 0 where

@@ -7,7 +7,7 @@ ghost use Rattle.std.specs.Prelude.{◌≡◌, ◌+◌, ◌*◌, ◌<◌, ◌≤
 ghost use Rattle.history.specs.Minima.{takes_over};
 ghost use Rattle.packing.specs.Packing.{value_in, place_in};
 ghost use Rattle.deque.specs.Words.{entry_word, entry_at};
-ghost use Rattle.deque.specs.Calls.{Cleared, Boundary, SlotAfter, Alone, Repeated, Put, Given, Arrived};
+ghost use Rattle.deque.specs.Calls.{Cleared, Boundary, SlotAfter, Alone, Repeated, Put, Arrived};
 
 use history::{Minimum, Position};
 
@@ -33,7 +33,8 @@ pub fn clear(area: &mut [u64])
     }
 }
 
-// A deque's header: its slots, the slot of the front entry, and how many entries stand from there on. The words stay a parameter beside it, as they are the caller's.
+// A deque's header: its slots, the slot of the front entry, and how many entries stand from there on. The words stay a parameter beside it, for the C interface and as there is no heap: each call
+// is lent them anew. In `ranges` a struct over the words was tried: each method that writes then owes a clause that they are the same words still.
 #[derive(Clone, Copy)]
 struct Ring {
     slots: usize,
@@ -51,7 +52,8 @@ impl Ring {
         requires { self.slots < length area.now }
         ensures { result ≡ gone area.now self.slots self.front place }
     {
-        area[1 + self.front] % 4294967296 + self.slots as u64 <= u64::from(place.0)
+        let front = packing::unpack(area[1 + self.front]).place;
+        u64::from(front.0) + self.slots as u64 <= u64::from(place.0)
     }
 
     // The slot behind the front's: after the last one comes the first.
@@ -121,27 +123,28 @@ impl Ring {
     }
 
     // An entry comes behind those that it does not take over from. What is returned is the front entry then.
-    fn put(self, area: &mut [u64], v: i32, word: u64) -> u64
+    fn put(self, area: &mut [u64], m: Minimum) -> Minimum
         requires { (self.count < self.slots) × (2 * self.slots ≤ length area.old) }
-        ensures { Put area.old area.new self.slots self.front self.count v word result }
+        ensures { Put area.old area.new self.slots self.front self.count m result }
     {
-        let k = self.taken_over(area, v);
+        let k = self.taken_over(area, m.value);
         let at = 1 + self.front + k;
+        let word = packing::pack(m);
         area[at] = word;
         repeat(area, self.slots, at, word);
         area[0] = (self.front * 65536 + k + 1) as u64;
-        area[1 + self.front]
+        packing::unpack(area[1 + self.front])
     }
 }
 
 // An entry that is the only one.
-fn alone(area: &mut [u64], word: u64) -> u64
+fn alone(area: &mut [u64], m: Minimum) -> Minimum
     requires { 1 < length area.old }
-    ensures { Alone area.old area.new word result }
+    ensures { Alone area.old area.new m result }
 {
-    area[1] = word;
+    area[1] = packing::pack(m);
     area[0] = 1;
-    word
+    m
 }
 
 // A word beyond the slots stands once more, as many words lower.
@@ -154,25 +157,16 @@ fn repeat(area: &mut [u64], slots: usize, at: usize, word: u64)
     }
 }
 
-// An entry comes, of a value and its position, and the front entry leaves where it is as many positions older as there are slots. A header that cannot be the deque's counts as that of no
-// entries.
-fn give(area: &mut [u64], slots: usize, v: i32, place: Position, word: u64) -> u64
-    requires { (0 < slots) × (slots ≤ 4096) × (2 * slots ≤ length area.old) }
-    ensures { Given area.old area.new slots v place word result }
-{
-    match Ring::left(area, slots, place) {
-        Some(ring) => ring.put(area, v, word),
-        None => alone(area, word),
-    }
-}
-
-// A value comes at the next position, and the one that is as many positions older as there are slots leaves. What is returned is the least of those that are left.
+// A value comes at the next position, and the one that is as many positions older as there are slots leaves. What is returned is the least of those that are left. A header that cannot be the
+// deque's counts as that of no entries.
 pub fn arrive(area: &mut [u64], slots: usize, m: Minimum) -> Minimum
     ensures { Arrived area.old area.new slots m result }
 {
     if slots < 1 || MOST_SLOTS < slots || area.len() < 2 * slots {
         return m;
     }
-    let place = m.place;
-    packing::unpack(give(area, slots, m.value, place, packing::pack(m)))
+    match Ring::left(area, slots, m.place) {
+        Some(ring) => ring.put(area, m),
+        None => alone(area, m),
+    }
 }

@@ -3,7 +3,7 @@ ghost use Rattle.std.specs.Prelude.{◌≡◌};
 ghost use Rattle.blocks.specs.Takes.{told};
 ghost use Rattle.firmware.specs.Takes.{in_numbers};
 
-use blocks::{Found, Offset};
+use blocks::Found;
 use history::Refusal;
 
 // A search's answer, C's `filkotar_found`: the reply's number, and the value and place that it shows, or zeros.
@@ -15,18 +15,13 @@ pub struct FoundNumbers {
     pub place: usize,
 }
 
-// What C gets where nothing is shown.
-const NOTHING: Found = Found {
-    value: 0,
-    place: Offset(0),
-};
-
 // A reply in numbers.
 impl From<Result<Found, Refusal>> for FoundNumbers {
     ghost from_gives = { λ reply numbers. numbers ≡ in_numbers (told reply) };
 
     fn from(reply: Result<Found, Refusal>) -> FoundNumbers {
-        let found = reply.ok().unwrap_or(NOTHING);
+        // Where nothing is shown, zeros.
+        let found = reply.ok().unwrap_or_default();
         FoundNumbers {
             number: u32::from(history::reply_number(reply)),
             value: found.value,

@@ -2,7 +2,7 @@
 ghost use Rattle.std.specs.Prelude.{◌≡◌};
 ghost use Rattle.firmware.specs.Windows.{window_from, outcome_of};
 
-use history::{Answer, Minimum, Position};
+use history::{Answer, Position};
 use window::Window;
 
 // A session: C's `filkotar_window`.
@@ -24,12 +24,6 @@ pub struct WindowOutcome {
     pub place: u32,
 }
 
-// What C gets where nothing is shown.
-const NOTHING: Minimum = Minimum {
-    value: 0,
-    place: Position(0),
-};
-
 // The session that the numbers stand for.
 impl From<WindowNumbers> for Window {
     ghost from_gives = { λ numbers session. session ≡ window_from numbers };
@@ -49,7 +43,8 @@ impl From<Answer<Window>> for WindowOutcome {
 
     fn from(a: Answer<Window>) -> WindowOutcome {
         let session = a.session;
-        let shown = a.reply.ok().flatten().unwrap_or(NOTHING);
+        // Where nothing is shown, zeros.
+        let shown = a.reply.ok().flatten().unwrap_or_default();
         WindowOutcome {
             session: WindowNumbers {
                 words: session.words,

@@ -12,7 +12,7 @@ ghost use Rattle.history.specs.Standings.{transition_of, event_of};
 ghost use Rattle.history.specs.StateVariable.{by_section_2};
 
 // A place in the stream of accepted Values, from 1; 0 stands before the first.
-#[derive(Clone, Copy, PartialEq, Eq, PartialOrd, Ord)]
+#[derive(Clone, Copy, Default, PartialEq, Eq, PartialOrd, Ord)]
 pub struct Position(pub u32);
 
 // "The highest is 4,294,967,295."
@@ -28,7 +28,7 @@ pub enum Standing {
 }
 
 // The least value of a range, and the place where it stands: a position of a stream or, in `blocks`, an offset of a stored take.
-#[derive(Clone, Copy, PartialEq, Eq)]
+#[derive(Clone, Copy, Default, PartialEq, Eq)]
 pub struct RangeMinimum<P> {
     pub value: i32,
     pub place: P,

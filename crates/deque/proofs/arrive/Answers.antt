@@ -1,12 +1,10 @@
--- `deque::arrive` meets its contract: where the words have room the value's word is given, and the front entry's read.
-use Rattle.std.proofs.Common.{rules}
-use Rattle.std.proofs.Math.Facts.{to_z-of_z}
-use mir.Syntax.{w32}
-use mir.Val.{SFits}
-use Rattle.deque.proofs.Arriving.{arrived}
+-- `deque::arrive` meets its contract: where the words have room, each way out is one law.
+use Rattle.std.proofs.Common.{arith}
+use Rattle.deque.proofs.Arriving.{arrived_alone, arrived_put}
 use Rattle.deque.proofs.arrive.Goals as goal
 
-pub returns : goal.returns
-returns c =
-    let f : SFits w32 c.args.m.value = search rules in
-    arrived c.pack.ensures.1 c.unpack.ensures (rw (to_z-of_z f) at c.give.ensures)
+pub returns-in-Some : goal.returns-in-Some
+returns-in-Some c = arrived_put (omega arith) c.left.ensures _ c.in-Some.is c.put.ensures
+
+pub returns-in-None : goal.returns-in-None
+returns-in-None c = arrived_alone (omega arith) c.left.ensures c.in-None.is c.alone.ensures
