@@ -141,8 +141,7 @@ impl Stored<'_, '_> {
     // The n-th request, with its line, for which there is room. A match is plainest: what a request carries differs by its kind.
     fn perform(&mut self, request: Request, n: Ordinal, page: &mut Page<'_>)
         requires { HasRoom page.old 59 }
-        ensures performs { Performs self.old.take.now self.old.index.now self.new.index.now n.n request page.old page.new }
-        ensures kept { self.new.take.now ≡ self.old.take.now }
+        ensures performs { Performs self.old self.new n.n request page.old page.new }
         ensures few { page.new.used ≤ page.old.used + 59 }
     {
         match request {
@@ -171,7 +170,7 @@ impl Stored<'_, '_> {
     // The requests, one after the other, up to where there is none. How many there are is returned, so they are counted here: `enumerate` would spare no count.
     fn follow(&mut self, requests: Reader<'_>, page: &mut Page<'_>) -> usize
         requires { HasRoom page.old 297360 }
-        ensures follows { Follows self.old.take.now self.old.index.now self.new.index.now requests.entry.bytes.now requests.entry.at page.old page.new result }
+        ensures follows { Follows self.old requests.entry.bytes.now requests.entry.at page.old page.new result }
         ensures few { page.new.used ≤ page.old.used + 297360 }
     {
         let mut read = 0;
@@ -184,7 +183,7 @@ impl Stored<'_, '_> {
 
     // All that is printed of a take and its index, from building to the last line.
     fn run(&mut self, requests: Reader<'_>, page: &mut Page<'_>)
-        requires holds { Holds requests.bytes.now requests.at self.old.take.now self.old.index.now }
+        requires holds { Holds requests.bytes.now requests.at self.old }
         requires room { HasRoom page.old 300532 }
         ensures { Plays requests.entry.bytes.now page.old page.new }
     {

@@ -5,7 +5,7 @@ use mathlib.Core.List.{List}
 use Prim.Native.Nat.{ℕ}
 use native.Mathlib.Omega.{arith}
 use lib.IntN.{ℤ}
-use lib.ListN.{length, set, length-set}
+use lib.ListN.{set}
 use lib.Seq.{set_out}
 use mir.Syntax.{w32}
 use mir.Val.{SFits}
@@ -17,10 +17,10 @@ use Rattle.listing.proofs.Stored.perform.Goals.{Joined-entry-self, then-entry-se
 
 pub returns-in-Stretch-clause-performs : goal.returns-in-Stretch-clause-performs
 returns-in-Stretch-clause-performs c =
-    stretched {values = c.args.self.now.take.now} {part = c.stretch.result.now} c.in-Stretch.is c.stretch.ensures.has c.stretch-in-Stretch.ensures.text
+    stretched {stored = c.args.self.now} {part = c.stretch.result.now} c.in-Stretch.is c.stretch.ensures.has c.stretch-in-Stretch.ensures.text
 
 pub returns-in-Rough-clause-performs : goal.returns-in-Rough-clause-performs
-returns-in-Rough-clause-performs c = looked c.in-Rough.is (rw c.entries-in-Rough.ensures at c.read.ensures) c.rough.ensures.text
+returns-in-Rough-clause-performs c = looked {stored = c.args.self.now} c.in-Rough.is (rw c.entries-in-Rough.ensures at c.read.ensures) c.rough.ensures.text
 
 -- the number is one of 32 bits
 fits : (c : Joined-entry-self) → SFits w32 c.in-Set.value
@@ -39,4 +39,4 @@ altered c =
 
 pub returns-after-entry-self-clause-performs : goal.returns-after-entry-self-clause-performs
 returns-after-entry-self-clause-performs c =
-    entered c.in-Set.is (altered (goal.at.returns-after-entry-self-clause-performs c).Joined-entry-self) c.set.ensures.text
+    entered {stored = c.args.self.now} c.in-Set.is (search rules) (altered (goal.at.returns-after-entry-self-clause-performs c).Joined-entry-self) c.set.ensures.text

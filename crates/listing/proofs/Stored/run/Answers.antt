@@ -5,5 +5,5 @@ use Rattle.listing.proofs.Stored.run.Goals as goal
 pub returns : goal.returns
 returns c =
     let h = c.requires.holds in
-    whole h.some (rw (h.taken, h.filled) at c.build.ensures) (rw (h.taken, h.begins) at c.follow-read.ensures.follows) c.build-2.ensures.text
+    whole h.some h.taken (rw (h.taken, h.filled) at c.build.ensures) (rw h.begins at c.follow-read.ensures.follows) c.build-2.ensures.text
     (rw c.entries.ensures at c.index.ensures.text) (rw h.begins at c.put_stop.ensures.text) c.end.ensures.text
