@@ -17,6 +17,7 @@ use Rattle.text.specs.Pages.{Puts}
 use Rattle.text.proofs.Texts.{put_nothing, put_then}
 use Rattle.listing.specs.declared.Request.{Request}
 use Rattle.listing.specs.declared.Request.TheVariants.{Search, Stretch, Rough, Set}
+use Rattle.listing.specs.declared.Stored.{Stored}
 use Rattle.listing.specs.Lines.{stretch_line, rough_line, set_line}
 use Rattle.listing.specs.Input.{request_at, goes_on, requests_from, requests_behind}
 use Rattle.listing.specs.Output.{index_after, request_line, request_lines}
@@ -25,19 +26,19 @@ use Rattle.listing.specs.Private.{Performs, Follows}
 use Rattle.listing.proofs.Readings.{cut_off}
 
 -- a stretch: nothing is found, so anything stands for it
-pub stretched : {values index part : List ℤ} {n i j : ℕ} {request : Request} {page written : Page} → request ≡ Stretch i j → part ≡ stretch_of values i j
-    → Puts page (stretch_line n part) written → Performs values index index n request page written
-stretched {n = n} e s a = rw e (record { found = unused; allowed = tt; alters = refl; prints = rw (ap (stretch_line n) s) at a })
+pub stretched : {stored : Stored} {part : List ℤ} {n i j : ℕ} {request : Request} {page written : Page} → request ≡ Stretch i j → part ≡ stretch_of stored.take.now i j
+    → Puts page (stretch_line n part) written → Performs stored stored n request page written
+stretched {n = n} e s a = rw e (record { found = unused; allowed = tt; kept = refl; alters = refl; prints = rw (ap (stretch_line n) s) at a })
 
 -- a rough reading, of which nothing is found either
-pub looked : {values index : List ℤ} {n i j budget : ℕ} {request : Request} {t : ToldReading} {page written : Page} → request ≡ Rough i j budget
-    → t ≡ rough_reading values index i j budget → Puts page (rough_line n t) written → Performs values index index n request page written
-looked {n = n} e s a = rw e (record { found = unused; allowed = tt; alters = refl; prints = rw (ap (rough_line n) s) at a })
+pub looked : {stored : Stored} {n i j budget : ℕ} {request : Request} {t : ToldReading} {page written : Page} → request ≡ Rough i j budget
+    → t ≡ rough_reading stored.take.now stored.index.now i j budget → Puts page (rough_line n t) written → Performs stored stored n request page written
+looked {n = n} e s a = rw e (record { found = unused; allowed = tt; kept = refl; alters = refl; prints = rw (ap (rough_line n) s) at a })
 
 -- another entry
-pub entered : {values index after : List ℤ} {n a : ℕ} {v : ℤ} {request : Request} {page written : Page} → request ≡ Set a v → after ≡ set index a v
-    → Puts page (set_line n) written → Performs values index after n request page written
-entered e s p = rw e (record { found = unused; allowed = tt; alters = s; prints = p })
+pub entered : {stored after : Stored} {n a : ℕ} {v : ℤ} {request : Request} {page written : Page} → request ≡ Set a v → after.take.now ≡ stored.take.now
+    → after.index.now ≡ set stored.index.now a v → Puts page (set_line n) written → Performs stored after n request page written
+entered e k s p = rw e (record { found = unused; allowed = tt; kept = k; alters = s; prints = p })
 
 -- the index after all of some requests
 abbrev index_after_all : List ℤ → List Request → List ℤ
@@ -115,60 +116,65 @@ index_length index (Stretch i j) = refl
 index_length index (Rough i j budget) = refl
 index_length index (Set a v) = length-set index a v
 
--- what holds with some requests still behind, of a following of `all` from the index `before`
-pub record Reached (values before : List ℤ) (all behind : List Request) (index : List ℤ) (page written : Page) (read : ℕ) : Type 0 where
+-- what holds with some requests still behind, of a following of `all` over a take and its index as they stood `before`
+pub record Reached (before : Stored) (all behind : List Request) (now : Stored) (page written : Page) (read : ℕ) : Type 0 where
   pub few : length all ≤ 5040
-  pub long : length index ≡ length before
+  pub kept : now.take.now ≡ before.take.now
+  pub long : length now.index.now ≡ length before.index.now
   pub requests : List Request
   pub found : List Found
   pub reads : all ≡ requests ++ behind
-  pub allowed : AllAllowed values before requests found
-  pub now : index ≡ index_after_all before requests
+  pub allowed : AllAllowed before.take.now before.index.now requests found
+  pub altered : now.index.now ≡ index_after_all before.index.now requests
   pub count : read ≡ length requests
-  pub prints : Puts page (request_lines values before 1 requests found) written
+  pub prints : Puts page (request_lines before.take.now before.index.now 1 requests found) written
   pub fits : written.used ≤ page.used + 59 * read
 
 -- no request yet
-pub reached_start : (values before : List ℤ) (bytes : List ℕ) (start : ℕ) (page : Page) → start ≤ length bytes → length bytes ≤ start + 65528
-    → Reached values before (requests_behind start bytes) (requests_behind start bytes) before page page 0
-reached_start values before bytes start page l most = record {
+pub reached_start : (before : Stored) (bytes : List ℕ) (start : ℕ) (page : Page) → start ≤ length bytes → length bytes ≤ start + 65528
+    → Reached before (requests_behind start bytes) (requests_behind start bytes) before page page 0
+reached_start before bytes start page l most = record {
   few = omega (arith, behind_within bytes start l);
+  kept = refl;
   long = refl;
   requests = [];
   found = [];
   reads = refl;
   allowed = tt;
-  now = refl;
+  altered = refl;
   count = refl;
   prints = put_nothing page;
   fits = omega arith;
 }
 
 -- one request more
-pub reached_more : {values before index after : List ℤ} {all behind rest : List Request} {page written printed : Page} {read : ℕ} {request : Request}
-    → Reached values before all behind index page written read → behind ≡ request ∷ rest
-    → Performs values index after (read + 1) request written printed → printed.used ≤ written.used + 59 → Reached values before all rest after page printed (read + 1)
-reached_more {values} {before} {index} {after} {rest = rest} {read = read} {request} u e o few =
+pub reached_more : {before now after : Stored} {all behind rest : List Request} {page written printed : Page} {read : ℕ} {request : Request}
+    → Reached before all behind now page written read → behind ≡ request ∷ rest
+    → Performs now after (read + 1) request written printed → printed.used ≤ written.used + 59 → Reached before all rest after page printed (read + 1)
+reached_more {before} {now} {after} {rest = rest} {read = read} {request} u e o few =
+    let values : List ℤ = before.take.now in
+    let first : List ℤ = before.index.now in
     let k : read + 1 ≡ 1 + length u.requests = omega (arith, u.count) in
     record {
       few = u.few;
-      long = ap length o.alters ∙ index_length index request ∙ u.long;
+      kept = o.kept ∙ u.kept;
+      long = ap length o.alters ∙ index_length now.index.now request ∙ u.long;
       requests = u.requests ++ (request ∷ []);
       found = u.found ++ (o.found ∷ []);
       reads = u.reads ∙ ap (λ (x : List Request). u.requests ++ x) e ∙ sym (append_assoc u.requests (request ∷ []) rest);
-      allowed = allowed_more values before u.requests u.found request o.found u.allowed (rw u.now at o.allowed);
-      now = o.alters ∙ ap (λ (x : List ℤ). index_after x request) u.now ∙ sym (index_more before u.requests request);
+      allowed = allowed_more values first u.requests u.found request o.found u.allowed (rw (u.kept, u.altered) at o.allowed);
+      altered = o.alters ∙ ap (λ (x : List ℤ). index_after x request) u.altered ∙ sym (index_more first u.requests request);
       count = omega (arith, u.count, length-append u.requests (request ∷ []));
       prints =
-          rw (lines_more values before 1 u.requests u.found request o.found u.allowed)
-          (put_then u.prints (rw (k, u.now) at o.prints));
+          rw (lines_more values first 1 u.requests u.found request o.found u.allowed)
+          (put_then u.prints (rw (k, u.kept, u.altered) at o.prints));
       fits = omega (arith, u.fits, few);
     }
 
 -- no request more
-pub reached_end : {values before index : List ℤ} {bytes : List ℕ} {behind : List Request} {page written : Page} {start read : ℕ}
-    → Reached values before (requests_behind start bytes) behind index page written read → start ≤ length bytes → behind ≡ [] → Follows values before index bytes start page written read
-reached_end {values} {before} {bytes = bytes} {start = start} u l e =
+pub reached_end : {before now : Stored} {bytes : List ℕ} {behind : List Request} {page written : Page} {start read : ℕ}
+    → Reached before (requests_behind start bytes) behind now page written read → start ≤ length bytes → behind ≡ [] → Follows before bytes start page written read
+reached_end {bytes = bytes} {start = start} u l e =
     let all : u.requests ≡ requests_behind start bytes = sym (u.reads ∙ ap (λ (x : List Request). u.requests ++ x) e ∙ append-nil u.requests) in
     record {
       found = u.found;

@@ -1,9 +1,8 @@
--- What is known of the texts in a line: those of replies, of values one after the other, of 0, and how many digits a number has at most.
+-- What is known of the texts in a line: those of replies, and of values one after the other.
 use mathlib.Core.Path.{◌≡◌, refl, sym, ap, ◌∙◌}
 use mathlib.Core.List.{List, [], ◌∷◌, ◌++◌, append_assoc, append-nil}
-use Prim.Native.Nat.{ℕ, ◌+◌, ◌-◌, ◌<◌, ◌≤◌}
+use Prim.Native.Nat.{ℕ, ◌+◌, ◌-◌, ◌<◌}
 use native.Mathlib.Numerals.{add-one}
-use native.Mathlib.Omega.{arith}
 use lib.IntN.{ℤ, pos}
 use lib.ListN.{length, take, get_or}
 use lib.Seq.{take-suc}
@@ -15,8 +14,6 @@ use Rattle.blocks.specs.Found.{Found}
 use Rattle.blocks.specs.Takes.{told, told_building}
 use Rattle.text.specs.Writing.{decimal_of}
 use Rattle.text.specs.Parts.{value_text, least_text, replied_text}
-use Rattle.text.proofs.Decimals as Decimals
-use Rattle.text.proofs.ReplyTexts as ReplyTexts
 use Rattle.listing.specs.Lines.{reply_text, values_text, ends_text}
 
 -- values, and one more
@@ -43,16 +40,3 @@ replied_building (Err why) = sym (append-nil (decimal_of (number_of why)))
 pub replied_search : (reply : Result Found Refusal) → replied_text (λ (f : Found). least_text (λ place. place.0) f) reply ≡ reply_text (told reply)
 replied_search (Ok f) = refl
 replied_search (Err why) = sym (append-nil (decimal_of (number_of why)))
-
--- 0 has one digit, a running number no more than five, a refusal's no more than three, and any no more than twenty
-pub zero_few : length (decimal_of 0) ≤ 1
-zero_few = Decimals.within 20 0 0 (omega arith)
-
-pub number_few : (n : ℕ) → n < 100000 → length (decimal_of n) ≤ 5
-number_few n l = Decimals.within 20 4 n (omega arith)
-
-pub refusal_few : (why : Refusal) → length (decimal_of (number_of why)) ≤ 3
-refusal_few why = ReplyTexts.number_few why
-
-pub word_few : (n : ℕ) → length (decimal_of n) ≤ 20
-word_few n = Decimals.word_few n

@@ -1,11 +1,12 @@
 -- The lines that `lookup` prints, but for `stop`, which is `text Stops.stop_lines`; the quotes are from its description, at the head of Output. The parts of a line stand a space apart, and it
 -- ends with a line feed, as in the other programs.
 use Rattle.std.specs.Prelude.{cond, List, [], ◌∷◌, ◌++◌, ℕ, ◌-◌, eqb, ℤ, pos, length, get_or, Option, None, Some}
+use Rattle.blocks.specs.declared.Offset.{Offset}
 use Rattle.blocks.specs.Found.{Found}
 use Rattle.blocks.specs.Takes.{Told}
 use Rattle.rough.specs.Looks.{ToldReading}
 use Rattle.text.specs.Writing.{decimal_of}
-use Rattle.text.specs.Parts.{spaced, newline, value_text, told_text}
+use Rattle.text.specs.Parts.{spaced, newline, value_text, least_text, told_text}
 
 -- "`no take` alone"
 abbrev pub no_take_line : List ℕ
@@ -13,7 +14,7 @@ no_take_line = 110 ∷ 111 ∷ spaced (116 ∷ 97 ∷ 107 ∷ 101 ∷ newline)
 
 -- "the reply, and on 0 the value and place"
 abbrev pub found_text : Found → List ℕ
-found_text f = value_text f.value ++ spaced (decimal_of f.place.0)
+found_text f = least_text (λ (place : Offset). place.0) f
 
 abbrev pub reply_text : Told → List ℕ
 reply_text t = told_text found_text t

@@ -12,7 +12,7 @@ ghost use Rattle.listing.specs.Choices.{Prints};
 ghost use Rattle.listing.specs.Private.{Within, Headed, Heads, Performs, Follows, Holds, Plays};
 
 use numbers::number_at;
-use text::Page;
+use text::{Input, Ordinal, Page};
 
 // What is asked of a take: its least value over a range, a stretch of it, a rough reading of a range, or another number in its index.
 #[derive(Clone, Copy, PartialEq, Eq)]
@@ -106,6 +106,7 @@ struct Reader<'a> {
     bytes: &'a [u8],
     at: usize,
     ghost within: { at ≤ length bytes.now },
+    ghost few: { length bytes.now ≤ at + 65528 },
 }
 
 impl Iterator for Reader<'_> {
@@ -122,91 +123,110 @@ impl Iterator for Reader<'_> {
     }
 }
 
-// The n-th request, with its line, for which there is room. A match is plainest: what a request carries differs by its kind.
-fn perform(request: Request, n: usize, take: &[i32], index: &mut [i32], page: &mut Page<'_>)
-    requires number { n < 100000 }
-    requires room { HasRoom page.old 59 }
-    ensures performs { Performs take.now index.old index.new n request page.old page.new }
-    ensures few { page.new.used ≤ page.old.used + 59 }
-{
-    match request {
-        Request::Search { from, to } => {
-            lines::search(page, n, blocks::search(take, index, from, to));
-        }
-        Request::Stretch { from, to } => {
-            lines::stretch(page, n, blocks::stretch(take, from, to));
-        }
-        Request::Rough { from, to, budget } => {
-            lines::rough(page, n, rough::read(take, index, from, to, budget));
-        }
-        Request::Set { entry, value } => {
-            if entry < index.len() {
-                index[entry] = value;
+// A take, and an index beside it, whatever its entries are.
+#[derive(Drop)]
+struct Stored<'t, 'i> {
+    take: &'t [i32],
+    index: &'i mut [i32],
+}
+
+impl Stored<'_, '_> {
+    // The index, to be read.
+    fn entries(&self) -> &[i32]
+        ensures { result.now ≡ self.now.index.now }
+    {
+        self.index
+    }
+
+    // The n-th request, with its line, for which there is room. A match is plainest: what a request carries differs by its kind.
+    fn perform(&mut self, request: Request, n: Ordinal, page: &mut Page<'_>)
+        requires { HasRoom page.old 59 }
+        ensures performs { Performs self.old self.new n.n request page.old page.new }
+        ensures few { page.new.used ≤ page.old.used + 59 }
+    {
+        match request {
+            Request::Search { from, to } => {
+                lines::search(page, n, blocks::search(self.take, self.entries(), from, to));
             }
-            lines::set(page, n);
+            Request::Stretch { from, to } => {
+                lines::stretch(page, n, blocks::stretch(self.take, from, to));
+            }
+            Request::Rough { from, to, budget } => {
+                lines::rough(
+                    page,
+                    n,
+                    rough::read(self.take, self.entries(), from, to, budget),
+                );
+            }
+            Request::Set { entry, value } => {
+                if entry < self.index.len() {
+                    self.index[entry] = value;
+                }
+                lines::set(page, n);
+            }
         }
     }
-}
 
-// The requests from an offset on, one after the other, up to where there is none. How many there are is returned.
-fn follow(bytes: &[u8], start: usize, take: &[i32], index: &mut [i32], page: &mut Page<'_>) -> usize
-    requires within { start ≤ length bytes.now }
-    requires most { length bytes.now ≤ start + 65528 }
-    requires room { HasRoom page.old 297360 }
-    ensures follows { Follows take.now index.old index.new bytes.now start page.old page.new result }
-    ensures few { page.new.used ≤ page.old.used + 297360 }
-{
-    let mut read = 0;
-    for request in (Reader { bytes, at: start }) {
-        read += 1;
-        perform(request, read, take, index, page);
+    // The requests, one after the other, up to where there is none. How many there are is returned, so they are counted here: `enumerate` would spare no count.
+    fn follow(&mut self, requests: Reader<'_>, page: &mut Page<'_>) -> usize
+        requires { HasRoom page.old 297360 }
+        ensures follows { Follows self.old requests.entry.bytes.now requests.entry.at page.old page.new result }
+        ensures few { page.new.used ≤ page.old.used + 297360 }
+    {
+        let mut read = 0;
+        for request in requests {
+            read += 1;
+            self.perform(request, Ordinal { n: read }, page);
+        }
+        read
     }
-    read
+
+    // All that is printed of a take and its index, from building to the last line.
+    fn run(&mut self, requests: Reader<'_>, page: &mut Page<'_>)
+        requires holds { Holds requests.bytes.now requests.at self.old }
+        requires room { HasRoom page.old 300532 }
+        ensures { Plays requests.entry.bytes.now page.old page.new }
+    {
+        let bytes = requests.bytes;
+        let start = requests.at;
+        lines::build(page, blocks::build(self.take, self.index));
+        lines::index(page, self.entries());
+        let read = self.follow(requests, page);
+        let at = start + 13 * read;
+        page.put_stop(bytes.len() - at, at);
+        lines::end(page, read);
+    }
 }
 
-// A take and its index, from building to the last line.
-fn run(bytes: &[u8], start: usize, take: &[i32], index: &mut [i32], page: &mut Page<'_>)
-    requires holds { Holds bytes.now start take.now index.old }
-    requires most { length bytes.now ≤ start + 65528 }
+// A take of so many values, with an index of so many entries. They stand in arrays of fixed length, of which a part is used, since there is no heap.
+fn load(input: Input<'_, 65536>, heading: Heading, page: &mut Page<'_>)
+    requires headed { Headed input.bytes.now heading }
     requires room { HasRoom page.old 300532 }
-    ensures { Plays bytes.now page.old page.new }
+    ensures { Plays input.entry.bytes.now page.old page.new }
 {
-    lines::build(page, blocks::build(take, index));
-    lines::index(page, index);
-    let read = follow(bytes, start, take, index, page);
-    let at = start + 13 * read;
-    page.put_stop(bytes.len() - at, at);
-    lines::end(page, read);
-}
-
-// A take of so many values, with an index of so many entries.
-fn load(bytes: &[u8], heading: Heading, page: &mut Page<'_>)
-    requires headed { Headed bytes.now heading }
-    requires most { length bytes.now ≤ 65536 }
-    requires room { HasRoom page.old 300532 }
-    ensures { Plays bytes.now page.old page.new }
-{
+    let bytes = input.bytes;
     let mut take = [0i32; 8192];
     let take = &mut take[..heading.values];
     numbers::read_values(bytes, 4, take);
     let mut index = [-1i32; 256];
-    run(
-        bytes,
-        8 + 4 * heading.values,
+    let mut stored = Stored {
         take,
-        &mut index[..heading.entries],
-        page,
-    );
+        index: &mut index[..heading.entries],
+    };
+    let requests = Reader {
+        bytes,
+        at: 8 + 4 * heading.values,
+    };
+    stored.run(requests, page);
 }
 
 // All that is printed of bytes that are all read.
-fn play(bytes: &[u8], page: &mut Page<'_>)
-    requires most { length bytes.now ≤ 65536 }
-    requires room { HasRoom page.old 300532 }
-    ensures { Plays bytes.now page.old page.new }
+fn play(input: Input<'_, 65536>, page: &mut Page<'_>)
+    requires { HasRoom page.old 300532 }
+    ensures { Plays input.entry.bytes.now page.old page.new }
 {
-    match read_heading(bytes) {
-        Some(heading) => load(bytes, heading, page),
+    match read_heading(input.bytes) {
+        Some(heading) => load(input, heading, page),
         None => lines::no_take(page),
     }
 }
@@ -218,6 +238,6 @@ pub fn write(bytes: &[u8], out: &mut [u8; 300532]) -> usize
     ensures prefix_len { IsPrefixLen result out.new }
 {
     let mut page = Page::new(out);
-    play(&bytes[..bytes.len().min(65536)], &mut page);
+    play(Input::new(bytes), &mut page);
     page.used
 }

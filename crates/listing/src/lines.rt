@@ -9,7 +9,7 @@ ghost use Rattle.listing.specs.Lines.{no_take_line, build_line, index_line, sear
 use blocks::{Found, Offset};
 use history::{RangeMinimum, Refusal};
 use rough::Figures;
-use text::{Page, Place};
+use text::{Ordinal, Page, Place};
 
 // A place in a take, as it is shown.
 #[derive(Clone, Copy)]
@@ -20,7 +20,7 @@ impl Place for Shown {
 
     ghost digits = { 20 };
 
-    #[tactic(auto, using(crate::proofs::Texts::word_few))]
+    #[tactic(auto, using(text::proofs::Decimals::word_few))]
     fn number(self) -> u64 {
         let place = self.0;
         place.0 as u64
@@ -59,27 +59,16 @@ pub fn index(page: &mut Page<'_>, entries: &[i32])
     page.put(b"\n");
 }
 
-// The running number of the n-th request, which has no more than five digits, and a text behind it. The lines of requests share this and no more: what stands behind it differs.
-#[tactic(auto, using(crate::proofs::Texts::number_few))]
-fn begin(page: &mut Page<'_>, n: usize, text: &[u8])
-    requires number { n < 100000 }
-    requires room { HasRoom page.old (5 + length text.now) }
-    ensures text { Puts page.old (decimal_of n ++ text.now) page.new }
-    ensures few { page.new.used ≤ page.old.used + 5 + length text.now }
-{
-    page.put_number(n as u64);
-    page.put(text);
-}
+// The lines of requests share how they begin, a running number and a text, and no more: what stands behind these differs.
 
 // The line of the n-th request, a search.
 #[tactic(auto, using(crate::proofs::Texts::replied_search))]
-pub fn search(page: &mut Page<'_>, n: usize, reply: Result<Found, Refusal>)
-    requires number { n < 100000 }
-    requires room { HasRoom page.old 50 }
-    ensures text { Puts page.old (search_line n (told reply)) page.new }
+pub fn search(page: &mut Page<'_>, n: Ordinal, reply: Result<Found, Refusal>)
+    requires { HasRoom page.old 50 }
+    ensures text { Puts page.old (search_line n.n (told reply)) page.new }
     ensures few { page.new.used ≤ page.old.used + 50 }
 {
-    begin(page, n, b" search ");
+    page.put_ordinal(n, b" search ");
     page.put_reply(reply.map(|found| RangeMinimum {
         value: found.value,
         place: Shown(found.place),
@@ -102,14 +91,13 @@ fn ends(page: &mut Page<'_>, part: &[i32])
 }
 
 // The line of the n-th request, a stretch.
-#[tactic(auto, using(crate::proofs::Texts::word_few))]
-pub fn stretch(page: &mut Page<'_>, n: usize, part: &[i32])
-    requires number { n < 100000 }
-    requires room { HasRoom page.old 59 }
-    ensures text { Puts page.old (stretch_line n part.now) page.new }
+#[tactic(auto, using(text::proofs::Decimals::word_few))]
+pub fn stretch(page: &mut Page<'_>, n: Ordinal, part: &[i32])
+    requires { HasRoom page.old 59 }
+    ensures text { Puts page.old (stretch_line n.n part.now) page.new }
     ensures few { page.new.used ≤ page.old.used + 59 }
 {
-    begin(page, n, b" stretch ");
+    page.put_ordinal(n, b" stretch ");
     page.put_number(part.len() as u64);
     ends(page, part);
     page.put(b"\n");
@@ -129,7 +117,7 @@ fn figure(page: &mut Page<'_>, known: Option<i32>)
 
 // A rough reading: the reply's number, the looks used and both figures; of a refusal its number, no look and no figure. Where there are figures the number is 0, and the text has no more than
 // 46 bytes: twenty digits of looks, and two values.
-#[tactic(auto, using(crate::proofs::Texts::word_few, crate::proofs::Texts::refusal_few, crate::proofs::Texts::zero_few))]
+#[tactic(auto, using(text::proofs::Decimals::word_few, text::proofs::ReplyTexts::number_few, text::proofs::ReplyTexts::zero_few))]
 fn reading(page: &mut Page<'_>, reading: Result<Figures, Refusal>)
     requires { HasRoom page.old 46 }
     ensures text { Puts page.old (reading_text (toldReading reading)) page.new }
@@ -151,33 +139,29 @@ fn reading(page: &mut Page<'_>, reading: Result<Figures, Refusal>)
 }
 
 // The line of the n-th request, a rough reading.
-pub fn rough(page: &mut Page<'_>, n: usize, reply: Result<Figures, Refusal>)
-    requires number { n < 100000 }
-    requires room { HasRoom page.old 59 }
-    ensures text { Puts page.old (rough_line n (toldReading reply)) page.new }
+pub fn rough(page: &mut Page<'_>, n: Ordinal, reply: Result<Figures, Refusal>)
+    requires { HasRoom page.old 59 }
+    ensures text { Puts page.old (rough_line n.n (toldReading reply)) page.new }
     ensures few { page.new.used ≤ page.old.used + 59 }
 {
-    begin(page, n, b" rough ");
+    page.put_ordinal(n, b" rough ");
     reading(page, reply);
     page.put(b"\n");
 }
 
 // The line of the n-th request, a `set`.
-pub fn set(page: &mut Page<'_>, n: usize)
-    requires number { n < 100000 }
-    requires room { HasRoom page.old 10 }
-    ensures text { Puts page.old (set_line n) page.new }
+pub fn set(page: &mut Page<'_>, n: Ordinal)
+    requires { HasRoom page.old 10 }
+    ensures text { Puts page.old (set_line n.n) page.new }
     ensures few { page.new.used ≤ page.old.used + 10 }
 {
-    begin(page, n, b" set\n");
+    page.put_ordinal(n, b" set\n");
 }
 
-#[tactic(auto, using(crate::proofs::Texts::word_few))]
 pub fn end(page: &mut Page<'_>, read: usize)
     requires { HasRoom page.old 25 }
     ensures text { Puts page.old (end_line read) page.new }
     ensures few { page.new.used ≤ page.old.used + 25 }
 {
-    page.put_numbered(b"end ", read as u64);
-    page.put(b"\n");
+    page.put_last(b"end ", read);
 }

@@ -1,4 +1,3 @@
-pub mod Texts
 pub mod Values
 pub mod Whole
 pub mod Examples

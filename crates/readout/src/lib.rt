@@ -12,7 +12,7 @@ ghost use Rattle.readout.specs.Private.{Performs, Follows};
 
 use following::Progress;
 use numbers::number_at;
-use text::Page;
+use text::{Input, Ordinal, Page};
 use window::Window;
 
 // The number of words to lend, of which there are no more than 8,192.
@@ -35,53 +35,59 @@ fn perform(
     ensures few { page.new.used ≤ page.old.used + 33 }
 {
     let answer = window::value(progress.session, area, v);
-    lines::value(page, progress.read + 1, answer.reply);
+    let n = Ordinal {
+        n: progress.read + 1,
+    };
+    lines::value(page, n, answer.reply);
     progress.after(answer)
 }
 
 // The values go to the session one after the other, all that have their four bytes.
-fn follow(bytes: &[u8], area: &mut [u64], session: Window, page: &mut Page<'_>) -> Progress<Window>
-    requires some { 8 ≤ length bytes.now }
-    requires most { length bytes.now ≤ 65536 }
+fn follow(
+    input: Input<'_, 65536>,
+    area: &mut [u64],
+    session: Window,
+    page: &mut Page<'_>,
+) -> Progress<Window>
+    requires some { 8 ≤ length input.bytes.now }
     requires room { HasRoom page.old 540606 }
-    ensures follows { Follows session (values_of bytes.now) area.old area.new page.old page.new result }
+    ensures follows { Follows session (values_of input.entry.bytes.now) area.old area.new page.old page.new result }
     ensures few { page.new.used ≤ page.old.used + 540606 }
 {
     let mut progress = Progress::new(session);
-    for four in bytes[8..].chunks_exact(4) {
+    for four in input.bytes[8..].chunks_exact(4) {
         progress = perform(progress, area, numbers::value_at(four, 0), page);
     }
     progress
 }
 
 // A window on the words lent, from its opening to its last line.
-fn run(bytes: &[u8], area: &mut [u64], page: &mut Page<'_>)
-    requires some { 8 ≤ length bytes.now }
-    requires most { length bytes.now ≤ 65536 }
+fn run(input: Input<'_, 65536>, area: &mut [u64], page: &mut Page<'_>)
+    requires some { 8 ≤ length input.bytes.now }
     requires room { HasRoom page.old 540710 }
-    ensures text { Puts page.old (printed (length area.old) bytes.now) page.new }
+    ensures text { Puts page.old (printed (length area.old) input.entry.bytes.now) page.new }
 {
+    let bytes = input.bytes;
     let opened = window::open(area, number_at(bytes, 0) as usize);
     lines::opening(page, opened.reply);
-    let progress = follow(bytes, area, opened.session, page);
+    let progress = follow(input, area, opened.session, page);
     let left = bytes.len() % 4;
     page.put_stop(left, bytes.len() - left);
     lines::end(page, progress.read, progress.accepted);
 }
 
 // All that is printed of bytes that are all read.
-fn play(bytes: &[u8], page: &mut Page<'_>)
-    requires most { length bytes.now ≤ 65536 }
+fn play(input: Input<'_, 65536>, page: &mut Page<'_>)
     requires room { HasRoom page.old 540710 }
-    ensures text { Puts page.old (printed_of bytes.now) page.new }
+    ensures text { Puts page.old (printed_of input.entry.bytes.now) page.new }
 {
-    if bytes.len() < 8 {
+    if input.bytes.len() < 8 {
         lines::no_window(page);
         return;
     }
-    let words = capped(number_at(bytes, 4));
+    let words = capped(number_at(input.bytes, 4));
     let mut area = [0u64; 8192];
-    run(bytes, &mut area[..words], page);
+    run(input, &mut area[..words], page);
 }
 
 // Writes all that is printed of an input, of which no more than the first 65,536 bytes are read, and returns how many bytes that is: a number of bytes at the start of `out`, which is what
@@ -91,6 +97,6 @@ pub fn write(bytes: &[u8], out: &mut [u8; 540710]) -> usize
     ensures prefix_len { IsPrefixLen result out.new }
 {
     let mut page = Page::new(out);
-    play(&bytes[..bytes.len().min(65536)], &mut page);
+    play(Input::new(bytes), &mut page);
     page.used
 }

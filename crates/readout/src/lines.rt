@@ -5,7 +5,7 @@ ghost use Rattle.text.specs.Pages.{HasRoom, Puts};
 ghost use Rattle.readout.specs.Lines.{no_window_line, open_line, value_line, end_line};
 
 use history::Reply;
-use text::Page;
+use text::{Ordinal, Page};
 
 pub fn no_window(page: &mut Page<'_>)
     requires { HasRoom page.old 10 }
@@ -15,7 +15,7 @@ pub fn no_window(page: &mut Page<'_>)
     page.put(b"no window\n");
 }
 
-#[tactic(auto, using(crate::proofs::Texts::replied_told))]
+#[tactic(auto, using(text::proofs::ReplyTexts::replied_told))]
 pub fn opening(page: &mut Page<'_>, reply: Reply)
     requires { HasRoom page.old 32 }
     ensures text { Puts page.old (open_line (told reply)) page.new }
@@ -26,27 +26,24 @@ pub fn opening(page: &mut Page<'_>, reply: Reply)
     page.put(b"\n");
 }
 
-// The line of the n-th value, whose number has no more than five digits.
-#[tactic(auto, using(crate::proofs::Texts::replied_told, crate::proofs::Texts::number_few))]
-pub fn value(page: &mut Page<'_>, n: usize, reply: Reply)
-    requires number { n < 100000 }
-    requires room { HasRoom page.old 33 }
-    ensures text { Puts page.old (value_line n (told reply)) page.new }
+// The line of the n-th value.
+#[tactic(auto, using(text::proofs::ReplyTexts::replied_told))]
+pub fn value(page: &mut Page<'_>, n: Ordinal, reply: Reply)
+    requires { HasRoom page.old 33 }
+    ensures text { Puts page.old (value_line n.n (told reply)) page.new }
     ensures few { page.new.used ≤ page.old.used + 33 }
 {
-    page.put_number(n as u64);
-    page.put(b" ");
+    page.put_ordinal(n, b" ");
     page.put_reply(reply);
     page.put(b"\n");
 }
 
-#[tactic(auto, using(crate::proofs::Texts::word_few))]
+#[tactic(auto, using(text::proofs::Decimals::word_few))]
 pub fn end(page: &mut Page<'_>, read: usize, accepted: usize)
     requires { HasRoom page.old 46 }
     ensures text { Puts page.old (end_line read accepted) page.new }
     ensures few { page.new.used ≤ page.old.used + 46 }
 {
     page.put_numbered(b"end ", read as u64);
-    page.put_numbered(b" ", accepted as u64);
-    page.put(b"\n");
+    page.put_last(b" ", accepted);
 }

@@ -1,7 +1,7 @@
 -- The fewest digits that hold a number are its decimal digits, and how many there are at most.
 use mathlib.Core.Path.{◌≡◌, ◌∙◌}
-use mathlib.Core.List.{List, [], ◌∷◌}
-use Prim.Native.Nat.{ℕ, zero, suc, ◌*◌, ◌-◌, ◌/◌, ◌%◌, ◌<◌, ◌≤◌, ◌^◌}
+use mathlib.Core.List.{List, [], ◌∷◌, ◌++◌}
+use Prim.Native.Nat.{ℕ, zero, suc, ◌+◌, ◌*◌, ◌-◌, ◌/◌, ◌%◌, ◌<◌, ◌≤◌, ◌^◌}
 use native.Mathlib.Nat.{pow-succ', one-le-pow, pow-le-pow_right, mod-eq_of_lt, le-div_iff_mul-le, div-lt_iff_lt-mul}
 use native.Mathlib.Numerals.{sub-one}
 use native.Mathlib.Decide.{dec_lt}
@@ -64,12 +64,19 @@ capped (suc most) n = elim (dec_lt n 10) [
   | no h ↦ simp (le-ltb n 10 (omega arith)) (omega (arith, capped most (n / 10), length-append (digits_within most (n / 10)) (hex_digit_ascii (n % 10) ∷ [])))
 ]
 
--- so one of 8 bits has no more than three, one of 32 bits no more than ten, and one of 64 bits no more than twenty
+-- so one of 8 bits has no more than three, a running number no more than five, a number of 32 bits no more than ten, and one of 64 bits no more than twenty
 pub byte_few : (n : ℕ) → n < 256 → length (decimal_of n) ≤ 3
 byte_few n l = within 20 2 n (omega arith)
+
+pub ordinal_few : (n : ℕ) → n < 100000 → length (decimal_of n) ≤ 5
+ordinal_few n l = within 20 4 n (omega arith)
 
 pub place_few : (n : ℕ) → n < 4294967296 → length (decimal_of n) ≤ 10
 place_few n l = within 20 9 n (omega arith)
 
 pub word_few : (n : ℕ) → length (decimal_of n) ≤ 20
 word_few n = capped 20 n
+
+-- and as many more behind a text
+pub behind_few : (text : List ℕ) (n : ℕ) → length (text ++ decimal_of n) ≤ length text + 20
+behind_few text n = omega (arith, length-append text (decimal_of n), word_few n)

@@ -9,7 +9,7 @@ use Rattle.std.specs.Prelude.{None, Some, Ok, Err}
 use Rattle.history.specs.Replies.{Reply, number_of, told}
 use Rattle.text.specs.Writing.{decimal_of}
 use Rattle.text.specs.Parts.{minimum_text, shown_text, replied_text, reply_text}
-use Rattle.text.proofs.Decimals.{byte_few}
+use Rattle.text.proofs.Decimals.{within, byte_few}
 
 -- no refusal's number has more than two digits
 number_small : (why : Refusal) → number_of why < 100
@@ -35,9 +35,9 @@ told_few (Ok None) = omega arith
 told_few (Ok (Some m)) = omega arith
 told_few (Err why) = number_small why
 
--- so the text of an acceptance's number, and that of a refusal's, has no more than three bytes
-pub zero_few : length (decimal_of 0) ≤ 3
-zero_few = byte_few 0 (omega arith)
+-- so the text of a refusal's number has no more than three bytes; that of an acceptance's has one
+pub zero_few : length (decimal_of 0) ≤ 1
+zero_few = within 20 0 0 (omega arith)
 
 pub number_few : (why : Refusal) → length (decimal_of (number_of why)) ≤ 3
 number_few why = byte_few (number_of why) (omega (arith, number_small why))

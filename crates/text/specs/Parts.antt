@@ -1,6 +1,7 @@
 -- Document 01, "Played examples": what lines are made of besides numbers: the space between two parts, the line's end, and a reply with what it shows.
 use Rattle.std.specs.Prelude.{List, [], ◌∷◌, ◌++◌, ℕ, ℤ, Option, None, Some, Result, Ok, Err}
 use Rattle.history.specs.Minimum.{Minimum}
+use Rattle.history.specs.declared.Position.{Position}
 use Rattle.history.specs.declared.RangeMinimum.{RangeMinimum}
 use Rattle.history.specs.declared.Refusal.{Refusal}
 use Rattle.history.specs.Replies.{ToldOf, Told, number_of}
@@ -23,7 +24,7 @@ least_text number m = value_text m.value ++ spaced (decimal_of (number m.place))
 
 -- "after an accepted Query the value and place"
 abbrev pub minimum_text : Minimum → List ℕ
-minimum_text m = value_text m.value ++ spaced (decimal_of m.place.0)
+minimum_text m = least_text (λ (place : Position). place.0) m
 
 -- what is shown, if anything, by the text that it has
 abbrev pub shown_text : {Shown : Type 0} → (text : Shown → List ℕ) → Option Shown → List ℕ

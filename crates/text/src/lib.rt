@@ -1,14 +1,39 @@
-// Text, written from left to right into bytes that are lent: bytes, numbers, signed values and replies. Nothing here knows what line they stand in, but for the one line that two programs
-// share.
+// What programs read and write: the bytes that one reads, and text, written from left to right into bytes that are lent: bytes, numbers, signed values and replies. Nothing here knows what
+// line they stand in, but for the one line that two programs share.
 #![tactic(auto)]
 
-ghost use Rattle.std.specs.Prelude.{◌≡◌, List, [], ◌++◌, ℕ, ◌+◌, ◌≤◌, length};
+ghost use Rattle.std.specs.Prelude.{◌≡◌, List, [], ◌++◌, ℕ, ◌+◌, ◌<◌, ◌≤◌, length, take};
 ghost use Rattle.text.specs.Writing.{decimal_of, signed_text};
 ghost use Rattle.text.specs.Pages.{HasRoom, Puts};
-ghost use Rattle.text.specs.Parts.{value_text, least_text, shown_text, replied_text};
+ghost use Rattle.text.specs.Parts.{newline, value_text, least_text, shown_text, replied_text};
 ghost use Rattle.text.specs.Stops.{stop_lines};
 
 use history::{Position, RangeMinimum, Refusal};
+
+// The bytes that a program reads, no more than so many.
+#[derive(Clone, Copy)]
+pub struct Input<'a, const MOST: usize> {
+    pub bytes: &'a [u8],
+    pub ghost most: { length bytes.now ≤ MOST },
+}
+
+impl<'a, const MOST: usize> Input<'a, MOST> {
+    // The first of the bytes that there are.
+    pub fn new(bytes: &'a [u8]) -> Input<'a, MOST>
+        ensures { result.bytes.now ≡ take MOST bytes.now }
+    {
+        Input {
+            bytes: &bytes[..bytes.len().min(MOST)],
+        }
+    }
+}
+
+// The running number of a line, which has no more than five digits.
+#[derive(Clone, Copy)]
+pub struct Ordinal {
+    pub n: usize,
+    pub ghost few: { n < 100000 },
+}
 
 // What a reply may show.
 pub trait Shown: Copy {
@@ -127,6 +152,28 @@ impl<'a> Page<'a> {
         self.put_number(n);
     }
 
+    // The same, where they end a line.
+    #[tactic(auto, using(crate::proofs::Decimals::behind_few))]
+    pub fn put_last(&mut self, text: &[u8], n: usize)
+        requires { HasRoom self.old (length text.now + 21) }
+        ensures text { Puts self.old (text.now ++ (decimal_of n ++ newline)) self.new }
+        ensures few { self.new.used ≤ self.old.used + length text.now + 21 }
+    {
+        self.put_numbered(text, n as u64);
+        self.put(b"\n");
+    }
+
+    // A running number, and a text behind it.
+    #[tactic(auto, using(crate::proofs::Decimals::ordinal_few))]
+    pub fn put_ordinal(&mut self, n: Ordinal, text: &[u8])
+        requires { HasRoom self.old (5 + length text.now) }
+        ensures text { Puts self.old (decimal_of n.n ++ text.now) self.new }
+        ensures few { self.new.used ≤ self.old.used + 5 + length text.now }
+    {
+        self.put_number(n.n as u64);
+        self.put(text);
+    }
+
     // A value, which has no more than eleven bytes.
     #[tactic(auto, using(crate::proofs::SignedTexts::size_few, crate::proofs::SignedTexts::signed_few))]
     pub fn put_signed(&mut self, v: i32)
@@ -167,15 +214,13 @@ impl<'a> Page<'a> {
     }
 
     // The line of the bytes that are left at an offset, where there are any.
-    #[tactic(auto, using(crate::proofs::Decimals::word_few))]
     pub fn put_stop(&mut self, left: usize, offset: usize)
         requires { HasRoom self.old 26 }
         ensures text { Puts self.old (stop_lines left offset) self.new }
         ensures few { self.new.used ≤ self.old.used + 26 }
     {
         if left > 0 {
-            self.put_numbered(b"stop ", offset as u64);
-            self.put(b"\n");
+            self.put_last(b"stop ", offset);
         }
     }
 }

@@ -1,4 +1,3 @@
-pub mod Texts
 pub mod Rooms
 pub mod Streams
 pub mod Whole

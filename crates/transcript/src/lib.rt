@@ -13,7 +13,7 @@ ghost use Rattle.transcript.specs.Private.{Performs, Follows};
 
 use following::Progress;
 use history::{Command, Session};
-use text::Page;
+use text::{Input, Ordinal, Page};
 
 // The next command, with its line, for which there is room. Its running number has no more than five digits.
 fn perform(
@@ -29,27 +29,29 @@ fn perform(
     ensures few { page.new.used ≤ page.old.used + 11 * bytes_of command }
 {
     let answer = engine::apply(progress.session, area, command);
-    lines::answer(page, progress.read + 1, command, answer.reply);
+    let n = Ordinal {
+        n: progress.read + 1,
+    };
+    lines::answer(page, n, command, answer.reply);
     progress.after(answer)
 }
 
 // The commands of a stream go to the session one after the other, until it ends or one cannot be read. An iterator over the commands would be no plainer: why one cannot be read, and where, is
 // printed behind them.
 fn follow(
-    bytes: &[u8],
+    input: Input<'_, 16384>,
     area: &mut [u64],
     session: Session,
     page: &mut Page<'_>,
 ) -> Progress<Session>
-    requires most { length bytes.now ≤ 16384 }
     requires room { HasRoom page.old 180271 }
-    ensures follows { Follows session area.old area.new bytes.now page.old page.new result }
+    ensures follows { Follows session area.old area.new input.entry.bytes.now page.old page.new result }
     ensures few { page.new.used ≤ page.old.used + 180271 }
 {
     let mut progress = Progress::new(session);
     let mut at = 0;
     loop {
-        match reading::read(&bytes[at..]) {
+        match reading::read(&input.bytes[at..]) {
             Ok(None) => return progress,
             Ok(Some(next)) => {
                 progress = perform(progress, area, next.command, page);
@@ -64,16 +66,15 @@ fn follow(
 }
 
 // A stream from its opening to its last line.
-fn play(bytes: &[u8], page: &mut Page<'_>)
-    requires most { length bytes.now ≤ 16384 }
+fn play(input: Input<'_, 16384>, page: &mut Page<'_>)
     requires room { HasRoom page.old 180364 }
-    ensures text { Puts page.old (printed 4352 (stream_of bytes.now)) page.new }
+    ensures text { Puts page.old (printed 4352 (stream_of input.entry.bytes.now)) page.new }
 {
     let mut area = [0u64; 4352];
     let opened = engine::open(&mut area);
     let session = opened.session;
     lines::taps(page, session.limit);
-    let progress = follow(bytes, &mut area, session, page);
+    let progress = follow(input, &mut area, session, page);
     let last = progress.session;
     lines::end(page, progress.read, progress.accepted, last.active);
 }
@@ -85,6 +86,6 @@ pub fn write(bytes: &[u8], out: &mut [u8; 180364]) -> usize
     ensures prefix_len { IsPrefixLen result out.new }
 {
     let mut page = Page::new(out);
-    play(&bytes[..bytes.len().min(16384)], &mut page);
+    play(Input::new(bytes), &mut page);
     page.used
 }

@@ -5,16 +5,14 @@ ghost use Rattle.text.specs.Pages.{HasRoom, Puts};
 ghost use Rattle.transcript.specs.Lines.{letter_of, taps_line, answer_line, stop_line, end_line};
 
 use history::{Command, Refusal, Reply};
-use text::Page;
+use text::{Ordinal, Page};
 
-#[tactic(auto, using(crate::proofs::Texts::word_few))]
 pub fn taps(page: &mut Page<'_>, limit: usize)
     requires { HasRoom page.old 26 }
     ensures text { Puts page.old (taps_line limit) page.new }
     ensures few { page.new.used ≤ page.old.used + 26 }
 {
-    page.put_numbered(b"taps ", limit as u64);
-    page.put(b"\n");
+    page.put_last(b"taps ", limit);
 }
 
 fn letter(command: Command) -> u8
@@ -28,32 +26,29 @@ fn letter(command: Command) -> u8
     }
 }
 
-// The line of the n-th command, whose number has no more than five digits.
-#[tactic(auto, using(crate::proofs::Texts::replied_told, crate::proofs::Texts::number_few))]
-pub fn answer(page: &mut Page<'_>, n: usize, command: Command, reply: Reply)
-    requires number { n < 100000 }
-    requires room { HasRoom page.old 35 }
-    ensures text { Puts page.old (answer_line n command (told reply)) page.new }
+// The line of the n-th command.
+#[tactic(auto, using(text::proofs::ReplyTexts::replied_told))]
+pub fn answer(page: &mut Page<'_>, n: Ordinal, command: Command, reply: Reply)
+    requires { HasRoom page.old 35 }
+    ensures text { Puts page.old (answer_line n.n command (told reply)) page.new }
     ensures few { page.new.used ≤ page.old.used + 35 }
 {
-    page.put_number(n as u64);
-    page.put(&[b' ', letter(command), b' ']);
+    page.put_ordinal(n, &[b' ', letter(command), b' ']);
     page.put_reply(reply);
     page.put(b"\n");
 }
 
-#[tactic(auto, using(crate::proofs::Texts::word_few))]
+#[tactic(auto, using(text::proofs::Decimals::word_few))]
 pub fn stop(page: &mut Page<'_>, offset: usize, why: Refusal)
     requires { HasRoom page.old 47 }
     ensures text { Puts page.old (stop_line offset (number_of why)) page.new }
     ensures few { page.new.used ≤ page.old.used + 47 }
 {
     page.put_numbered(b"stop ", offset as u64);
-    page.put_numbered(b" ", u64::from(u8::from(why)));
-    page.put(b"\n");
+    page.put_last(b" ", usize::from(u8::from(why)));
 }
 
-#[tactic(auto, using(crate::proofs::Texts::word_few))]
+#[tactic(auto, using(text::proofs::Decimals::word_few))]
 pub fn end(page: &mut Page<'_>, read: usize, accepted: usize, active: usize)
     requires { HasRoom page.old 67 }
     ensures text { Puts page.old (end_line read accepted active) page.new }
@@ -61,6 +56,5 @@ pub fn end(page: &mut Page<'_>, read: usize, accepted: usize, active: usize)
 {
     page.put_numbered(b"end ", read as u64);
     page.put_numbered(b" ", accepted as u64);
-    page.put_numbered(b" ", active as u64);
-    page.put(b"\n");
+    page.put_last(b" ", active);
 }

@@ -12,7 +12,7 @@ use Rattle.listing.proofs.load.Goals as goal
 pub run-requires-clause-holds : goal.run-requires-clause-holds
 run-requires-clause-holds c =
     let h = c.requires.headed in
-    let bytes : List ℕ = c.args.bytes.now in
+    let bytes : List ℕ = c.args.input.bytes.now in
     let n : ℕ = c.args.heading.values in
     let m : ℕ = c.args.heading.entries in
     let room : length {A = ℤ} (take n (replicate 8192 (pos 0))) ≡ n = simp (length-take, length-replicate) (omega (arith, h.most)) in

@@ -7,4 +7,4 @@ use Rattle.readout.proofs.follow.Given as goal
 abbrev pub invariant-loop-four : goal.invariant-loop-four
 invariant-loop-four l =
     (chunks_exact_size l.four-iterator ≡ 4)
-    × Reached l.bytes l.initial.area l.fn.session l.initial.page (chunks_exact_rest l.four-iterator) l.area l.page l.progress
+    × Reached l.fn.input.bytes.now l.initial.area l.fn.session l.initial.page (chunks_exact_rest l.four-iterator) l.area l.page l.progress

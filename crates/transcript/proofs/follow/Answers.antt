@@ -14,9 +14,9 @@ loop-progress-init c = reached_start c.new-progress.ensures.session c.new-progre
 
 -- the command that was read moves the place, and leaves it within the stream
 moved : (c : In-Ok-Some)
-    → (1 ≤ c.in-Ok-Some.next.length) × (c.loop-progress.at + c.in-Ok-Some.next.length ≤ length c.args.bytes.now)
+    → (1 ≤ c.in-Ok-Some.next.length) × (c.loop-progress.at + c.in-Ok-Some.next.length ≤ length c.args.input.bytes.now)
 moved c =
-    let m = moves c.args.bytes.now c.loop-progress.at c.in-Ok-Some.next c.loop-progress.invariant.within c.read.ensures (search rules) in
+    let m = moves c.args.input.bytes.now c.loop-progress.at c.in-Ok-Some.next c.loop-progress.invariant.within c.read.ensures (search rules) in
     (m.0, m.1)
 
 pub loop-progress-smaller : goal.loop-progress-smaller

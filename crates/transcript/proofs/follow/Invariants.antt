@@ -6,7 +6,7 @@ use Rattle.transcript.proofs.Streams.{Reached}
 use Rattle.transcript.proofs.follow.Given as goal
 
 abbrev pub invariant-loop-progress : goal.invariant-loop-progress
-invariant-loop-progress l = Reached l.bytes l.initial.area l.fn.session l.initial.page l.area l.page l.progress l.at
+invariant-loop-progress l = Reached l.fn.input.bytes.now l.initial.area l.fn.session l.initial.page l.area l.page l.progress l.at
 
 abbrev pub decreases-loop-progress : goal.decreases-loop-progress
-decreases-loop-progress l = length l.bytes - l.at
+decreases-loop-progress l = length l.fn.input.bytes.now - l.at
