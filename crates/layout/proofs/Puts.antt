@@ -13,8 +13,7 @@ use Rattle.layout.specs.declared.Held.{Held}
 use Rattle.layout.specs.declared.Place.{Place}
 use Rattle.layout.specs.declared.Role.{Role}
 use Rattle.layout.specs.declared.Role.TheVariants.{Active, Younger, Older, Next}
-use Rattle.layout.specs.declared.Extent.{Extent}
-use Rattle.layout.specs.Words.{Put, puts, extent_puts, left_puts}
+use Rattle.layout.specs.Words.{Put, puts, rows_puts, left_puts}
 use Rattle.layout.specs.Frames.{SameLanes}
 use Rattle.layout.proofs.Written.{wrote_header, lanes_then, lanes_stay}
 
@@ -28,12 +27,12 @@ abbrev pub in_header : List Put → Bool
 in_header [] = true
 in_header (p ∷ ps) = ltb p.at 32 && in_header ps
 
--- the words of an extent are, of whatever role
-pub extent_in_header : (r : Role) (e : Extent) → in_header (extent_puts r e) ≡ true
-extent_in_header Active e = refl
-extent_in_header Younger e = refl
-extent_in_header Older e = refl
-extent_in_header Next e = refl
+-- those of the rows and the height are, of whatever role
+pub rows_in_header : (r : Role) (h : Held) (t : Place) → in_header (rows_puts r h t) ≡ true
+rows_in_header Active h t = refl
+rows_in_header Younger h t = refl
+rows_in_header Older h t = refl
+rows_in_header Next h t = refl
 
 -- so are those of the next row and its run
 pub left_in_header : (r : Role) (h : Held) (t : Place) → in_header (left_puts r h t) ≡ true

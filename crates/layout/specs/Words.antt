@@ -81,6 +81,10 @@ extent_puts r e =
     record { at = header_of r; to = e.lane.0 } ∷ record { at = header_of r + 1; to = e.rows.0 } ∷ record { at = header_of r + 2; to = e.capacity.0 } ∷ record { at = header_of r + 3; to = e.height.0 }
     ∷ []
 
+-- those of its rows and of its stack's height alone
+abbrev pub rows_puts : Role → Held → Place → List Put
+rows_puts r rows height = record { at = header_of r + 1; to = rows.0 } ∷ record { at = header_of r + 3; to = height.0 } ∷ []
+
 -- the word of where a role's lane starts, and those of the next row that is carried and its run
 abbrev pub start_puts : Role → Position → List Put
 start_puts r p = record { at = header_of r + 4; to = p.0 } ∷ []

@@ -13,9 +13,9 @@ use Rattle.layout.specs.declared.Lane.{Lane}
 use Rattle.layout.specs.declared.Extent.{Extent}
 use Rattle.layout.specs.declared.Role.{Role}
 use Rattle.layout.specs.declared.Role.TheVariants.{Active, Younger, Older, Next}
-use Rattle.layout.specs.Words.{after, mark_word, extent_of, left_of, run_of, Room, extent_puts, left_puts}
+use Rattle.layout.specs.Words.{after, mark_word, extent_of, left_of, run_of, Room, rows_puts, left_puts}
 use Rattle.layout.specs.Frames.{Kind, SameLanes, Within}
-use Rattle.layout.proofs.Puts.{extent_in_header, left_in_header, puts_lanes}
+use Rattle.layout.proofs.Puts.{rows_in_header, left_in_header, puts_lanes}
 use Rattle.table.specs.Calls.{Released}
 use Rattle.table.proofs.Closing.{release_within}
 use Rattle.stack.proofs.Rooms.{room_or_not}
@@ -60,7 +60,7 @@ next_inside {w} {v} q = go q.found refl
     go None z = nothing_done (q.lost z)
 
 pub joined_inside : {w v : List ℕ} {role : Role} {p : Position} {x : ℕ} → Joined w v role p x → Inside w v
-joined_inside {w} {role = role} a = subst (Inside w) (sym a.done) (done_then (appended_inside a.appended) (header_inside (puts_lanes (extent_puts role a.grown) a.words (extent_in_header role a.grown))))
+joined_inside {w} {role = role} a = subst (Inside w) (sym a.done) (done_then (appended_inside a.appended) (header_inside (puts_lanes (rows_puts role a.grown.rows a.grown.height) a.words (rows_in_header role a.grown.rows a.grown.height))))
 
 carried_inside : {w v : List ℕ} {e : Extent} {h : Held} {x : ℕ} → Carried w v e h x → Inside w v
 carried_inside {w} {v} {e} {h} a = ⊎_elim

@@ -17,7 +17,7 @@ use Rattle.layout.specs.Words.{Earlier, Lower, after, mark_word, position, exten
 use Rattle.layout.specs.Frames.{SameLane, Other}
 use Rattle.layout.specs.Frames as Frames
 use Rattle.layout.proofs.Written.{lane_then, lane_stays, each_lane, each_kind}
-use Rattle.layout.specs.Words.{Put, puts, extent_puts}
+use Rattle.layout.specs.Words.{Put, puts, rows_puts}
 use Rattle.layout.proofs.Puts.{puts_lanes}
 use Rattle.table.specs.Marks.{After}
 use Rattle.table.proofs.Active.{own}
@@ -97,10 +97,17 @@ module _ {w v : List ℕ} {e : Extent} {h : Held} {x : ℕ} {values : List ℤ} 
         (a.grows values n (spare d) (subst (After w next.lane next.rows) (sym here) after-all) (subst (λ (y : Position). 0 < y.0) (sym here) z)
         (subst (λ (y : Position). y.0 ≤ length values) (sym here) b) (is ∙ ap (λ (y : Position). packed (minimum values y)) (sym here))
         (subst (λ (y : Position). Faithful (minimum values y)) (sym here) f)) in
-        let ps : List Put = extent_puts Next r in
+        let ps : List Put = rows_puts Next r.rows r.height in
         let m : 32 ≤ length u = omega (arith, i.long) in
         let lanes = puts_lanes ps u refl in
-        let new : extent_of (puts ps u) Next ≡ r = ap (λ (s : Roles). s.next) (roles_put ps u refl m) in
+        let new : extent_of (puts ps u) Next ≡ r =
+        ap (λ (s : Roles). s.next) (roles_put ps u refl m)
+        ∙ (λ j. record {
+          lane = ((λ y. record { 0 = i.header 24 (omega arith) y }) ∙ sym a.same.0) j;
+          rows = r.rows;
+          capacity = ((λ y. record { 0 = i.header 26 (omega arith) y }) ∙ sym a.same.1) j;
+          height = r.height;
+        }) in
         let more = a.more (record { room = n.linked.room; row = spare d; high = n.stacked.low }) in
         let kept : roles_of (puts ps u) ≡ with_next (roles_of w) (extent_of (puts ps u) Next) =
         roles_put ps u refl m ∙ (λ j. with_next (roles_same w u i.header j) (sym (ap (λ (s : Roles). s.next) (roles_put ps u refl m)) j)) in

@@ -23,7 +23,7 @@ use Rattle.layout.specs.declared.Held.{Held}
 use Rattle.layout.specs.declared.Lane.{Lane}
 use Rattle.layout.specs.declared.Extent.{Extent}
 use Rattle.layout.specs.declared.Role.TheVariants.{Active}
-use Rattle.layout.specs.Words.{Lower, after, row₀, position, extent_of, Room, Put, puts, extent_puts}
+use Rattle.layout.specs.Words.{Lower, after, row₀, position, extent_of, Room, Put, puts, rows_puts}
 use Rattle.layout.specs.Frames.{SameLane, SameLanes, Other}
 use Rattle.layout.specs.Frames as Frames
 use Rattle.layout.proofs.Written.{each_lane, each_kind, lane_then}
@@ -166,7 +166,7 @@ module _ (h : History) (first w : List ℕ) (active : ℕ) (p : Position) (y : S
     t = roles_of u
 
     abbrev ps : List Put
-    ps = extent_puts Active r
+    ps = rows_puts Active r.rows r.height
 
     abbrev z : List ℕ
     z = puts ps x
@@ -205,7 +205,13 @@ module _ (h : History) (first w : List ℕ) (active : ℕ) (p : Position) (y : S
 
     roles_then : roles_of z ≡ with_active t r
     roles_then =
-        roles_put ps x refl (omega (arith, q.within.long)) ∙ (λ j. with_active (roles_same u x q.within.header j) r)
+        roles_put ps x refl (omega (arith, q.within.long))
+        ∙ (λ j. with_active (roles_same u x q.within.header j) (record {
+          lane = ((λ i. record { 0 = q.within.header 0 (omega arith) i }) ∙ sym q.same.0) j;
+          rows = r.rows;
+          capacity = ((λ i. record { 0 = q.within.header 2 (omega arith) i }) ∙ sym q.same.1) j;
+          height = r.height;
+        }))
 
     -- the positions of the rows
     position_then : (g : Held) → position z t.active.lane g ≡ position x t.active.lane g

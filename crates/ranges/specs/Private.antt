@@ -7,7 +7,7 @@ use Rattle.layout.specs.declared.Place.{Place}
 use Rattle.layout.specs.declared.Extent.{Extent}
 use Rattle.layout.specs.declared.Role.{Role}
 use Rattle.layout.specs.declared.Role.TheVariants.{Active, Younger, Older, Next}
-use Rattle.layout.specs.Words.{Lower, Under, after, row₀, bottom, mark_word, position, least_word, extent_of, start_of, left_of, run_of, emptied, Room, Put, puts, extent_puts, start_puts, left_puts}
+use Rattle.layout.specs.Words.{Lower, Under, after, row₀, bottom, mark_word, position, least_word, extent_of, start_of, left_of, run_of, emptied, Room, Put, puts, extent_puts, rows_puts, start_puts, left_puts}
 use Rattle.layout.specs.Frames.{Kind, Within}
 use Rattle.table.specs.Marks.{After}
 use Rattle.table.specs.Calls.{Sought, Released}
@@ -41,12 +41,12 @@ pub record Appended (w v : List ℕ) (e : Extent) (p : Position) (x : ℕ) (r : 
   pub grows : (values : List ℤ) → LaneHolds w e values → Lower e.rows e.capacity → After w e.lane e.rows p → 0 < p.0 → p.0 ≤ length values
       → x ≡ packed (minimum values p) → Faithful (minimum values p) → Grows w v e r values p
 
--- `join`: a mark is appended to the lane of a role, and the header has the lane as it is then
+-- `join`: a mark is appended to the lane of a role, and the header has its rows and its height as they are then
 pub record Joined (w v : List ℕ) (role : Role) (p : Position) (x : ℕ) : Type 0 where
   pub words : List ℕ
   pub grown : Extent
   pub appended : Appended w words (extent_of w role) p x grown
-  pub done : v ≡ puts (extent_puts role grown) words
+  pub done : v ≡ puts (rows_puts role grown.rows grown.height) words
 
 -- `carry`: a row whose mark is closed, or that is none of a lane's, changes nothing, and one whose mark is active joins the next lane's
 pub record Carried (w v : List ℕ) (e : Extent) (h : Held) (x : ℕ) : Type 0 where
