@@ -3,6 +3,7 @@
 #![tactic(auto)]
 
 // Three programs have this `main`, of other sizes. One function for them would take `write` under a bound `Fn` that names the size of `out`, and gets no proof yet.
+// There is no heap: what is read and what is written stand in arrays of fixed length, at their start.
 fn main() {
     let mut bytes = [0u8; 65536];
     let n = io::read_full(0, &mut bytes);

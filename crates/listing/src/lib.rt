@@ -198,7 +198,7 @@ impl Stored<'_, '_> {
     }
 }
 
-// A take of so many values, with an index of so many entries. They stand in arrays of fixed length, of which a part is used, since there is no heap.
+// A take of so many values, with an index of so many entries. There is no heap, so that they are the first of two arrays of fixed length.
 fn load(input: Input<'_, 65536>, heading: Heading, page: &mut Page<'_>)
     requires headed { Headed input.bytes.now heading }
     requires room { HasRoom page.old 300532 }
@@ -233,6 +233,7 @@ fn play(input: Input<'_, 65536>, page: &mut Page<'_>)
 
 // Writes all that is printed of an input, of which no more than the first 65,536 bytes are read, and returns how many bytes that is: a number of bytes at the start of `out`, which is what
 // `Counts` says. There is room for the first two lines, of 43 and 3,078 bytes, for those of 5,040 requests, of 59 bytes each, and for the last two, of 26 and 25.
+// Three programs have such a `write`, of other sizes and of a `play` of their own. One over a closure would be these three lines, under clauses that say of any closure what it puts on a page.
 pub fn write(bytes: &[u8], out: &mut [u8; 300532]) -> usize
     ensures prints { Prints bytes.now (take result out.new) }
     ensures prefix_len { IsPrefixLen result out.new }

@@ -35,7 +35,6 @@ pub fn no_take(page: &mut Page<'_>)
     page.put(b"no take\n");
 }
 
-#[tactic(auto, using(crate::proofs::Texts::replied_building))]
 pub fn build(page: &mut Page<'_>, reply: Result<(), Refusal>)
     requires { HasRoom page.old 43 }
     ensures text { Puts page.old (build_line (told_building reply)) page.new }
@@ -62,7 +61,6 @@ pub fn index(page: &mut Page<'_>, entries: &[i32])
 // The lines of requests share how they begin, a running number and a text, and no more: what stands behind these differs.
 
 // The line of the n-th request, a search.
-#[tactic(auto, using(crate::proofs::Texts::replied_search))]
 pub fn search(page: &mut Page<'_>, n: Ordinal, reply: Result<Found, Refusal>)
     requires { HasRoom page.old 50 }
     ensures text { Puts page.old (search_line n.n (told reply)) page.new }
@@ -77,7 +75,6 @@ pub fn search(page: &mut Page<'_>, n: Ordinal, reply: Result<Found, Refusal>)
 }
 
 // The first and the last of some values, where there are any.
-#[tactic(auto, using(crate::proofs::Texts::ends_none, crate::proofs::Texts::ends_some))]
 fn ends(page: &mut Page<'_>, part: &[i32])
     requires { HasRoom page.old 24 }
     ensures text { Puts page.old (ends_text part.now) page.new }

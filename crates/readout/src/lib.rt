@@ -76,7 +76,7 @@ fn run(input: Input<'_, 65536>, area: &mut [u64], page: &mut Page<'_>)
     lines::end(page, progress.read, progress.accepted);
 }
 
-// All that is printed of bytes that are all read.
+// All that is printed of bytes that are all read. There is no heap, so that the words lent are the first of an array of fixed length.
 fn play(input: Input<'_, 65536>, page: &mut Page<'_>)
     requires room { HasRoom page.old 540710 }
     ensures text { Puts page.old (printed_of input.entry.bytes.now) page.new }
@@ -92,6 +92,7 @@ fn play(input: Input<'_, 65536>, page: &mut Page<'_>)
 
 // Writes all that is printed of an input, of which no more than the first 65,536 bytes are read, and returns how many bytes that is: a number of bytes at the start of `out`, which is what
 // `Counts` says. There is room for the lines of 16,382 values, of 33 bytes each, and for the first and the last lines.
+// Three programs have such a `write`, of other sizes and of a `play` of their own. One over a closure would be these three lines, under clauses that say of any closure what it puts on a page.
 pub fn write(bytes: &[u8], out: &mut [u8; 540710]) -> usize
     ensures out_after { take result out.new ≡ output_of bytes.now }
     ensures prefix_len { IsPrefixLen result out.new }

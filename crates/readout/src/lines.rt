@@ -15,7 +15,6 @@ pub fn no_window(page: &mut Page<'_>)
     page.put(b"no window\n");
 }
 
-#[tactic(auto, using(text::proofs::ReplyTexts::replied_told))]
 pub fn opening(page: &mut Page<'_>, reply: Reply)
     requires { HasRoom page.old 32 }
     ensures text { Puts page.old (open_line (told reply)) page.new }
@@ -27,7 +26,6 @@ pub fn opening(page: &mut Page<'_>, reply: Reply)
 }
 
 // The line of the n-th value.
-#[tactic(auto, using(text::proofs::ReplyTexts::replied_told))]
 pub fn value(page: &mut Page<'_>, n: Ordinal, reply: Reply)
     requires { HasRoom page.old 33 }
     ensures text { Puts page.old (value_line n.n (told reply)) page.new }

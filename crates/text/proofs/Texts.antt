@@ -1,11 +1,9 @@
 -- Texts written one after the other.
-use mathlib.Core.Path.{◌≡◌, refl, sym, ap, ◌∙◌}
+use mathlib.Core.Path.{refl, sym, ap, ◌∙◌}
 use mathlib.Core.List.{List, [], ◌++◌, append_assoc, append-nil}
-use Prim.Native.Nat.{ℕ, min}
+use Prim.Native.Nat.{ℕ}
 use native.Mathlib.Omega.{arith}
-use lib.ListN.{length, take, length-append}
-use Rattle.std.proofs.Math.Nat.{min_comm}
-use Rattle.std.proofs.lemmas.List.{take_min}
+use lib.ListN.{take, length-append}
 use Rattle.text.specs.declared.Page.{Page}
 use Rattle.text.specs.Writing.{Adds}
 use Rattle.text.specs.Pages.{Puts}
@@ -28,11 +26,3 @@ put_nothing page = record { same = refl; adds = nothing page.out.now page.used }
 
 pub put_then : {a b c : Page} {s t : List ℕ} → Puts a s b → Puts b t c → Puts a (s ++ t) c
 put_then f g = record { same = g.same ∙ f.same; adds = then f.adds g.adds }
-
--- all that is written on a page that was empty
-pub all_written : {a b : Page} {text : List ℕ} → a.used ≡ 0 → Puts a text b → take b.used b.out.now ≡ text
-all_written {a} {text = text} e f = f.adds.says ∙ ap (λ (n : ℕ). take n a.out.now ++ text) e
-
--- the bytes that are read, where no more than the first n are
-pub first_bytes : {m : ℕ} (n : ℕ) (bytes : List ℕ) → m ≡ min (length bytes) n → take m bytes ≡ take n bytes
-first_bytes n bytes e = rw (e, min_comm (length bytes) n) (take_min n bytes)

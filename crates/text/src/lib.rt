@@ -108,6 +108,7 @@ impl<T: Shown> Shown for Option<T> {
 
 // Bytes that are lent, and how many of them are written: those at the start. No `fmt::Write`, and no `Display` of what is put: what these promise holds where `Ok` comes back, and nothing says when it
 // does, while there is room here for all that is put.
+// Each function that puts a text states how much room it asks for and how much it takes at most. The number is the text's own: a type for each line, as the trait above has it, would state the same two clauses.
 #[derive(Drop)]
 pub struct Page<'a> {
     pub out: &'a mut [u8],

@@ -81,6 +81,7 @@ fn play(input: Input<'_, 16384>, page: &mut Page<'_>)
 
 // Writes all that is printed of a stream, of which no more than the first 16,384 bytes are read, and returns how many bytes that is: a number of bytes at the start of `out`, which is what
 // `Counts` says. There is room for eleven bytes for each byte that is read, and for the first and the last lines.
+// Three programs have such a `write`, of other sizes and of a `play` of their own. One over a closure would be these three lines, under clauses that say of any closure what it puts on a page.
 pub fn write(bytes: &[u8], out: &mut [u8; 180364]) -> usize
     ensures out_after { take result out.new ≡ output_of bytes.now }
     ensures prefix_len { IsPrefixLen result out.new }

@@ -27,7 +27,6 @@ fn letter(command: Command) -> u8
 }
 
 // The line of the n-th command.
-#[tactic(auto, using(text::proofs::ReplyTexts::replied_told))]
 pub fn answer(page: &mut Page<'_>, n: Ordinal, command: Command, reply: Reply)
     requires { HasRoom page.old 35 }
     ensures text { Puts page.old (answer_line n.n command (told reply)) page.new }
