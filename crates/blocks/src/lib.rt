@@ -52,7 +52,7 @@ fn takes_over(later: i32, least: i32) -> bool
     later < least
 }
 
-// The least value. It begins with the first and then goes over all of them, since a block of 64 is made into whole vectors.
+// The least value: a fold that begins with the first and goes over all of them, since a block of 64 is made into whole vectors. By `copied().min()` 64 values take 229 instructions, so 179.
 fn least_value(values: &[i32]) -> i32
     requires { 0 < length values.now }
     ensures { result ≡ (minimum_from values.now 0).value }
@@ -194,6 +194,7 @@ fn fit(values: usize, entries: usize) -> Result<(), Refusal>
 }
 
 // What is due to a search of a take of so many values, with an index of so many entries, from `i` to `j`: 15 for an index of another length, then 14 for a range that the take does not have.
+// The ends of a range stay two numbers, here and in what asks this: C passes them so, and a `RangeInclusive` would be taken apart again in each.
 pub fn due(values: usize, entries: usize, i: usize, j: usize) -> Result<(), Refusal>
     ensures { number_told result ≡ search_refusal values entries i j }
 {
@@ -209,8 +210,10 @@ pub fn build(take: &[i32], index: &mut [i32]) -> Result<(), Refusal>
     ensures { Builds take.now index.old index.new result }
 {
     fit(take.len(), index.len())?;
-    for (b, entry) in index.iter_mut().enumerate() {
-        *entry = least_value(block(take, b));
+    // The entry stays written by its number: of what `iter_mut()` writes in a `zip` with the blocks a proof learns no more than the length (tried), and with `block(take, b)` for each entry of
+    // `iter_mut().enumerate()` a block takes 192 instructions, so 160, and building misses the bar of 1.2 times a scan.
+    for (b, part) in take.chunks(64).enumerate() {
+        index[b] = least_value(part);
     }
     Ok(())
 }
