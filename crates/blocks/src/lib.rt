@@ -80,7 +80,7 @@ fn first_at(values: &[i32], v: i32) -> Option<usize>
 }
 
 // The place of the least value, where that is `v`: the first that equals it, since among equal values the earliest counts. If `v` is not
-// the least, an offset all the same.
+// the least, an offset all the same, and no `None`: where the index is not the take's a search shows a place of its own choice, and does not fail.
 fn place_of(values: &[i32], v: i32) -> Offset
     requires { 0 < length values.now }
     ensures { PlaceOf values.now v result }
@@ -102,7 +102,7 @@ fn least_from(from: usize, part: &[i32]) -> Found
     }
 }
 
-// The least of many values, block by block, so that the place is looked for in one block alone.
+// The least of many values, block by block, so that the place is looked for in one block alone. A `for`: a fold would carry the value and its block as a pair, and be no plainer.
 fn least_of_many(values: &[i32]) -> Found
     requires { 0 < length values.now }
     ensures { (result ≡ minimum_from values.now 0) × (result.place.0 < length values.now) }

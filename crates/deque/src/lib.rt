@@ -17,11 +17,11 @@ pub const MOST_SLOTS: usize = 4096;
 // How many entries are tried one by one, from the last one down, before the search goes on by halves: mostly few are taken over.
 const NEAR: usize = 8;
 
-// Whether a later value takes over from an entry: the choice among equal values, and the one comparison of values. Their words are ordered as they are.
+// Whether a later value takes over from an entry: the choice among equal values, and the one comparison of values.
 fn takes_over(later: i32, entry: u64) -> bool
     ensures { result ≡ takes_over later (value_in entry) }
 {
-    signed::to_word(later) < entry / 4294967296
+    later < packing::unpack(entry).value
 }
 
 // No entries.

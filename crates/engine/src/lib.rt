@@ -13,7 +13,7 @@ ghost use Rattle.engine.specs.Private.{Within};
 
 use history::{Answer, Command, Event, Minimum, Outcome, Position, Refusal, Session, Standing};
 
-// A session with no opening: all its numbers are 0, as document 01 has it ("unopened just when its N is 0").
+// A session with no opening: all its numbers are 0, and it is no `None`, since document 01 rules so ("unopened just when its N is 0").
 const UNOPENED: Session = Session {
     words: 0,
     limit: 0,

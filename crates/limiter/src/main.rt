@@ -2,7 +2,7 @@
 // is, is proved in `readout`.
 #![tactic(auto)]
 
-// Three programs have this `main`, of other sizes. One function for them would take `write` under a bound `Fn` that names the size of `out`, and gets no proof yet.
+// Three programs have this `main`, of other sizes. One function for them would take `write` under a bound `Fn` that names the size of `out`: tried, and its proof does not close.
 // There is no heap: what is read and what is written stand in arrays of fixed length, at their start.
 fn main() {
     let mut bytes = [0u8; 65536];

@@ -11,7 +11,7 @@ use history::{RangeMinimum, Refusal};
 use rough::Figures;
 use text::{Ordinal, Page, Place};
 
-// A place in a take, as it is shown.
+// A place in a take, as it is shown: a type of its own, since the trait and the place are other crates'.
 #[derive(Clone, Copy)]
 struct Shown(Offset);
 
@@ -41,8 +41,7 @@ pub fn build(page: &mut Page<'_>, reply: Result<(), Refusal>)
     ensures few { page.new.used ≤ page.old.used + 43 }
 {
     page.put(b"build ");
-    page.put_reply(reply);
-    page.put(b"\n");
+    page.put_last_reply(reply);
 }
 
 // The line of an index: each entry has no more than eleven bytes, and a space before it.
@@ -58,7 +57,7 @@ pub fn index(page: &mut Page<'_>, entries: &[i32])
     page.put(b"\n");
 }
 
-// The lines of requests share how they begin, a running number and a text, and no more: what stands behind these differs.
+// The lines of requests share how they begin, a running number and a text, which is `Page`'s: what stands behind these differs.
 
 // The line of the n-th request, a search.
 pub fn search(page: &mut Page<'_>, n: Ordinal, reply: Result<Found, Refusal>)
@@ -67,11 +66,10 @@ pub fn search(page: &mut Page<'_>, n: Ordinal, reply: Result<Found, Refusal>)
     ensures few { page.new.used ≤ page.old.used + 50 }
 {
     page.put_ordinal(n, b" search ");
-    page.put_reply(reply.map(|found| RangeMinimum {
+    page.put_last_reply(reply.map(|found| RangeMinimum {
         value: found.value,
         place: Shown(found.place),
     }));
-    page.put(b"\n");
 }
 
 // The first and the last of some values, where there are any.

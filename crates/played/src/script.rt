@@ -1,6 +1,7 @@
 // Scripts: steps as words, as `V5 M V16 Q1 13*8`. A command is a letter and its argument: a number, `+` for the greatest value or position, or of a Value also `-` for the least. `13*8` is 13 rounds
 // of a Value of 8, a Mark and a Close of that position.
 use history::{Command, Position};
+use std::str::FromStr;
 
 pub enum Step {
     Call(Command),
@@ -22,7 +23,7 @@ fn position_of(argument: &str) -> Option<Position> {
     }
 }
 
-// The command that a word says, if it says one.
+// The command that a word says, if it says one. A function, as the two above, and no `FromStr`: the type is another crate's.
 fn command_of(word: &str) -> Option<Command> {
     if word == "M" {
         return Some(Command::Mark);
@@ -37,12 +38,19 @@ fn command_of(word: &str) -> Option<Command> {
     position_of(argument).map(Command::Close)
 }
 
-// The step that a word says, if it says one.
-pub fn step_of(word: &str) -> Option<Step> {
-    let Some((turns, value)) = word.split_once('*') else {
-        return command_of(word).map(Step::Call);
-    };
-    let turns = turns.parse().ok()?;
-    let value = value.parse().ok()?;
-    Some(Step::Rounds { turns, value })
+// That a word says no step.
+#[derive(Drop)]
+pub struct NoStep;
+
+impl FromStr for Step {
+    type Err = NoStep;
+
+    fn from_str(word: &str) -> Result<Step, NoStep> {
+        let Some((turns, value)) = word.split_once('*') else {
+            return command_of(word).map(Step::Call).ok_or(NoStep);
+        };
+        let turns = turns.parse().or(Err(NoStep))?;
+        let value = value.parse().or(Err(NoStep))?;
+        Ok(Step::Rounds { turns, value })
+    }
 }

@@ -153,7 +153,7 @@ fn append(area: &mut [u64], e: Extent, p: Position, word: u64) -> Extent
 }
 
 // A mark at a position after all others of a role's lane joins them, with its range minimum as a word, and the header has its rows and its height as they are then.
-// Inlined: as calls it made the longest Mark some fifty instructions longer.
+// The lane and its room stay, so that two words are written, and not the four of `layout::write`; and it is inlined: as calls it made the longest Mark some fifty instructions longer.
 #[inline(always)]
 fn join(area: &mut [u64], role: Role, p: Position, word: u64)
     requires { 32 ≤ length area.old }

@@ -22,7 +22,8 @@ fn capped(words: u32) -> usize
     (words as usize).min(8192)
 }
 
-// The next value, with its line, for which there is room. Its running number has no more than five digits.
+// The next value, with its line, for which there is room. Its running number has no more than five digits. `Progress` is what this shares with the stream program's: the call and the line differ,
+// and both would be closures. The words and the page stay two parameters, here and below, since a struct of both would be taken apart in each: the call is lent the words, the line goes on the page.
 fn perform(
     progress: Progress<Window>,
     area: &mut [u64],

@@ -21,8 +21,7 @@ pub fn opening(page: &mut Page<'_>, reply: Reply)
     ensures few { page.new.used ≤ page.old.used + 32 }
 {
     page.put(b"open ");
-    page.put_reply(reply);
-    page.put(b"\n");
+    page.put_last_reply(reply);
 }
 
 // The line of the n-th value.
@@ -32,8 +31,7 @@ pub fn value(page: &mut Page<'_>, n: Ordinal, reply: Reply)
     ensures few { page.new.used ≤ page.old.used + 33 }
 {
     page.put_ordinal(n, b" ");
-    page.put_reply(reply);
-    page.put(b"\n");
+    page.put_last_reply(reply);
 }
 
 #[tactic(auto, using(text::proofs::Decimals::word_few))]

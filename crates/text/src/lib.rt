@@ -139,6 +139,7 @@ impl<'a> Page<'a> {
         requires { HasRoom self.old (length (decimal_of n)) }
         ensures { Puts self.old (decimal_of n) self.new }
     {
+        // there is no heap: `io::decimal` writes into lent bytes, and says how many
         let mut digits = [0u8; 20];
         let k = io::decimal(n, &mut digits);
         self.put(&digits[..k]);
@@ -153,7 +154,15 @@ impl<'a> Page<'a> {
         self.put_number(n);
     }
 
-    // The same, where they end a line.
+    // A line's end.
+    fn end_line(&mut self)
+        requires { HasRoom self.old 1 }
+        ensures { Puts self.old newline self.new }
+    {
+        self.put(b"\n");
+    }
+
+    // A text, and a number behind it, which end a line.
     #[tactic(auto, using(crate::proofs::Decimals::behind_few))]
     pub fn put_last(&mut self, text: &[u8], n: usize)
         requires { HasRoom self.old (length text.now + 21) }
@@ -161,7 +170,7 @@ impl<'a> Page<'a> {
         ensures few { self.new.used ≤ self.old.used + length text.now + 21 }
     {
         self.put_numbered(text, n as u64);
-        self.put(b"\n");
+        self.end_line();
     }
 
     // A running number, and a text behind it.
@@ -212,6 +221,16 @@ impl<'a> Page<'a> {
             }
             Err(why) => self.put_number(u64::from(u8::from(why))),
         }
+    }
+
+    // The same, where it ends a line.
+    pub fn put_last_reply<T: Shown>(&mut self, reply: Result<T, Refusal>)
+        requires { HasRoom self.old (4 + T.most) }
+        ensures text { Puts self.old (replied_text T.text reply ++ newline) self.new }
+        ensures few { self.new.used ≤ self.old.used + 4 + T.most }
+    {
+        self.put_reply(reply);
+        self.end_line();
     }
 
     // The line of the bytes that are left at an offset, where there are any.

@@ -15,7 +15,8 @@ use following::Progress;
 use history::{Command, Session};
 use text::{Input, Ordinal, Page};
 
-// The next command, with its line, for which there is room. Its running number has no more than five digits.
+// The next command, with its line, for which there is room. Its running number has no more than five digits. `Progress` is what this shares with the limiter's: the call and the line differ, and
+// both would be closures. The words and the page stay two parameters, here and below, since a struct of both would be taken apart in each: the call is lent the words, the line goes on the page.
 fn perform(
     progress: Progress<Session>,
     area: &mut [u64],

@@ -15,6 +15,7 @@ pub fn taps(page: &mut Page<'_>, limit: usize)
     page.put_last(b"taps ", limit);
 }
 
+// A function, and no `From`: both types are another crate's.
 fn letter(command: Command) -> u8
     ensures { result ≡ letter_of command }
 {
@@ -33,8 +34,7 @@ pub fn answer(page: &mut Page<'_>, n: Ordinal, command: Command, reply: Reply)
     ensures few { page.new.used ≤ page.old.used + 35 }
 {
     page.put_ordinal(n, &[b' ', letter(command), b' ']);
-    page.put_reply(reply);
-    page.put(b"\n");
+    page.put_last_reply(reply);
 }
 
 #[tactic(auto, using(text::proofs::Decimals::word_few))]

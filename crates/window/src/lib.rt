@@ -20,7 +20,7 @@ pub struct Window {
     pub present: Position,
 }
 
-// A session with no opening: all its numbers are 0, as the papers have it, and C.
+// A session with no opening: all its numbers are 0, and it is no `None`, since the papers rule so, and C has none.
 const UNOPENED: Window = Window {
     words: 0,
     width: 0,
