@@ -118,7 +118,7 @@ impl Lane {
     }
 }
 
-// Where the words of a role stand in the header.
+// Where the words of a role stand in the header: a name for each, so that no other crate has its number.
 impl Role {
     // Word f of a role.
     fn word(self, f: usize) -> usize
