@@ -118,7 +118,7 @@ impl Lane {
     }
 }
 
-// Where the words of a role stand in the header.
+// Where the words of a role stand in the header: a name for each, so that no other crate has its number.
 impl Role {
     // Word f of a role.
     fn word(self, f: usize) -> usize
@@ -199,7 +199,7 @@ pub fn read(area: &[u64], role: Role) -> Extent
     }
 }
 
-// The header has a lane for a role.
+// The lane of a role is written into the header.
 pub fn write(area: &mut [u64], role: Role, e: Extent)
     requires { 32 ≤ length area.old }
     ensures { area.new ≡ puts (extent_puts role e) area.old }
@@ -210,7 +210,7 @@ pub fn write(area: &mut [u64], role: Role, e: Extent)
     area[role.height()] = e.height.0 as u64;
 }
 
-// The header has the next row of a role's lane that is carried, and its run.
+// The next row of a role's lane that is carried, and the run that has it, are written into the header.
 pub fn write_left(area: &mut [u64], role: Role, left: Held, run: Place)
     requires { 32 ≤ length area.old }
     ensures { area.new ≡ puts (left_puts role left run) area.old }
