@@ -1,6 +1,6 @@
 pub mod Choice
 pub mod Acceptances
-pub mod Answers
+pub mod Outcomes
 pub mod Lowest
 pub mod TwoParts
 pub mod Parts

@@ -73,6 +73,8 @@ pub fn value(s: Window, area: &mut [u64], v: i32) -> Answer<Window>
 }
 
 // The least after a value and the session then, or why the value is refused.
+// `always`, since LLVM else inlines it too late: a loop of values would ask each time again whether the length is N.
+#[inline(always)]
 fn take_value(s: Window, area: &mut [u64], v: i32) -> Outcome<Window>
     ensures { Does s v area.old area.new (answered s result) }
 {

@@ -1,6 +1,6 @@
 -- `engine::find` meets its contract. What the lengths refuse is refused, and a position that can be no active mark; what the words have for another is told, which is the law `query_found`,
 -- and where they have nothing it is refused, which is `query_refused`. Nothing is written.
-use Rattle.history.proofs.Answers.{handed_on}
+use Rattle.history.proofs.Outcomes.{handed_on}
 use Rattle.engine.proofs.Asked.{a_query, asked_outside, query_refused, query_found}
 use Rattle.engine.proofs.find.Goals as goal
 

@@ -3,7 +3,7 @@
 use mathlib.Core.Path.{refl, ap, ◌∙◌}
 use native.Mathlib.Omega.{arith}
 use Rattle.std.proofs.Common.{rules}
-use Rattle.history.proofs.Answers.{handed_on}
+use Rattle.history.proofs.Outcomes.{handed_on}
 use Rattle.history.specs.declared.Event.{Event}
 use Rattle.history.specs.declared.Transition.{Transition}
 use Rattle.history.specs.Standings.{transition_of}

@@ -4,7 +4,7 @@
 use mathlib.Core.Path.{refl, sym, ap, ◌∙◌}
 use native.Mathlib.Omega.{arith}
 use Rattle.std.proofs.Common.{rules}
-use Rattle.history.proofs.Answers.{handed_on}
+use Rattle.history.proofs.Outcomes.{handed_on}
 use Rattle.history.specs.declared.Transition.{Transition}
 use Rattle.engine.proofs.Doing.{does_lent, does_with}
 use Rattle.engine.proofs.Marking.{allowed, mark_refused, mark_full, mark_foreign, mark_done}

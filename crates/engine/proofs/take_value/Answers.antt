@@ -2,7 +2,7 @@
 -- position, which is the law `value_done`. The session's parts are then the next position, the value, the count as it was and the standing after a Value.
 use mathlib.Core.Path.{refl, sym, ap}
 use mir.Facts.{to_z-of_z}
-use Rattle.history.proofs.Answers.{handed_on}
+use Rattle.history.proofs.Outcomes.{handed_on}
 use Rattle.history.specs.declared.Transition.{Transition}
 use Rattle.engine.proofs.Doing.{does_lent, does_with}
 use Rattle.engine.proofs.Valued.{value_last, value_done}

@@ -1,6 +1,6 @@
 -- `window::take_value` meets its contract. What the lengths refuse is refused; else the value has come to the deque, and those that are W older have left.
 use Rattle.std.proofs.Math.Facts.{to_z-of_z}
-use Rattle.history.proofs.Answers.{handed_on}
+use Rattle.history.proofs.Outcomes.{handed_on}
 use Rattle.window.proofs.Doing.{does_lent, does_accepted}
 use Rattle.window.proofs.take_value.Goals as goal
 
