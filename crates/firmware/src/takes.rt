@@ -21,7 +21,7 @@ impl From<Result<Found, Refusal>> for FoundNumbers {
 
     fn from(reply: Result<Found, Refusal>) -> FoundNumbers {
         // Where nothing is shown, zeros.
-        let found = reply.ok().unwrap_or_default();
+        let found = reply.ok().unwrap_or(Found::default());
         FoundNumbers {
             number: u32::from(history::reply_number(reply)),
             value: found.value,

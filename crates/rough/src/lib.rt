@@ -2,7 +2,7 @@
 // looks allows the first B of them; what they show bounds the least value of the range from above and from below.
 #![tactic(auto)]
 
-ghost use Rattle.std.specs.Prelude.{◌≡◌, ◌+◌, ◌*◌, ◌<◌, ◌≤◌, min, length, IsSome};
+ghost use Rattle.std.specs.Prelude.{◌≡◌, ◌+◌, ◌*◌, ◌^◌, ◌<◌, ◌≤◌, length, IsSome};
 ghost use Rattle.rough.specs.Looks.{looks_used, figures_after, rough_reading, told};
 ghost use Rattle.rough.specs.Private.{lower_of, Sees, SeesEntries, SeesValues, low_by, CutsAt};
 
@@ -109,17 +109,9 @@ fn low_figure(
     }
 }
 
-// Where the values of a block begin, or else where the range ends that goes to `j`.
-fn begins(block: usize, j: usize) -> usize
-    requires { j < 18446744073709551615 }
-    ensures { result ≡ min (64 * block) (j + 1) }
-{
-    if block <= j / 64 { 64 * block } else { j + 1 }
-}
-
 // The blocks wholly inside the range from `i` to `j`, of a take of `n` values, and where the range's other values end and begin again.
 fn cut(n: usize, i: usize, j: usize) -> Cuts
-    requires { (i ≤ j) × (j < n) }
+    requires { (i ≤ j) × (j < n) × (n < 2 ^ 63) }
     ensures { CutsAt n i j result }
 {
     let inner = blocks::block_count(i);
@@ -127,8 +119,8 @@ fn cut(n: usize, i: usize, j: usize) -> Cuts
     Cuts {
         inner,
         outer,
-        left: begins(inner, j),
-        right: begins(outer, j),
+        left: (64 * inner).min(j + 1),
+        right: (64 * outer).min(j + 1),
     }
 }
 

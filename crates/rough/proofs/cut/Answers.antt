@@ -10,4 +10,4 @@ returns c =
     let a = c.args in
     let inner = c.block_count-inner.ensures in
     let outer = c.max-outer.ensures ∙ ap (λ (x : ℕ). max x c.blocks_before.result) inner ∙ ap (max (block_count a.i)) c.blocks_before.ensures in
-    cuts_at a.n a.i a.j _ c.requires.0 c.requires.1 inner outer c.begins.ensures c.begins-2.ensures
+    cuts_at a.n a.i a.j _ c.requires.0 c.requires.1 inner outer c.min.ensures c.min-2.ensures
