@@ -77,7 +77,10 @@ impl<'a, R: Print + Drop, const N: usize> Board<'a, R, N> {
 
     // Makes each step of a script in turn, lent the first n words. Of rounds it prints the value before.
     fn apply_each(&mut self, n: usize, script: &str) -> io::Result<()> {
-        for step in script.split_whitespace().filter_map(|word| word.parse::<Step>().ok()) {
+        for step in script
+            .split_whitespace()
+            .filter_map(|word| word.parse::<Step>().ok())
+        {
             match step {
                 Step::Call(command) => self.apply(n, command)?,
                 Step::Rounds { turns, value } => {
