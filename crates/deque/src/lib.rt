@@ -84,7 +84,8 @@ impl Ring {
         })
     }
 
-    // What is left of the entries when one comes at a position. Nothing, where none is, or where the header cannot be the deque's.
+    // What is left of the entries when one comes at a position. Nothing, where none is, or where the header cannot be the deque's. Its two numbers are halves of one word, which is read here alone
+    // and written by `put` and `alone`: a type with conversions for it would serve these three lines, and be no plainer.
     fn left(area: &[u64], slots: usize, place: Position) -> Option<Ring>
         requires { (0 < slots) × (slots ≤ 4096) × (slots < length area.now) }
         ensures { Left area.now slots place result }
