@@ -13,7 +13,7 @@ ghost use Rattle.demands.specs.Private.{Commanded};
 
 use history::{Command, Position, Session};
 
-// The calls of `Witness.filling`. Two of them go through `apply`.
+// The calls of `Witness.filling`. Two of them go through `apply`. Session and words are two parameters, as in the calls: each may be lent other words.
 fn filling(s: Session, area: &mut [u64; 640]) -> Session
     ensures { Commanded 640 s area.old area.new (asked Witness.filling) result }
 {

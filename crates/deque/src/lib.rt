@@ -17,7 +17,8 @@ pub const MOST_SLOTS: usize = 4096;
 // How many entries are tried one by one, from the last one down, before the search goes on by halves: mostly few are taken over.
 const NEAR: usize = 8;
 
-// Whether a later value takes over from an entry: the choice among equal values, and the one comparison of values.
+// Whether a later value takes over from an entry: the choice among equal values, and the one comparison of values here. That of `blocks` is the same test, of two values: both have the definition
+// of `history` in their contracts, and what is alike is a `<`.
 fn takes_over(later: i32, entry: u64) -> bool
     ensures { result ≡ takes_over later (value_in entry) }
 {

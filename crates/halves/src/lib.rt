@@ -33,15 +33,11 @@ pub fn first_near_top<F: Fn(usize) -> bool>(count: usize, looks: usize, test: F)
     ensures here { result < count → F.post test result true }
     ensures before { (k : ℕ) → k + 1 ≡ result → F.post test k false }
 {
-    let mut top = count;
-    for _ in 0..looks {
-        if top == 0 {
-            return top;
+    let below = count.saturating_sub(looks);
+    for k in (below..count).rev() {
+        if !test(k) {
+            return k + 1;
         }
-        if !test(top - 1) {
-            return top;
-        }
-        top -= 1;
     }
-    first_where(top, test)
+    first_where(below, test)
 }

@@ -55,7 +55,8 @@ pub struct Extent {
 }
 
 // Where the words of a lane's rows stand. That a row, a place or a bucket is at most 8,207 is asked at each: rows and heights come from words of any content, and `has_room` tests
-// them once for a call; a type that has the bound would be made, and tested, row by row.
+// them once for a call; a type that has the bound would be made, and tested, row by row. Each word has a method, and not one method a kind of word, since a mark is of a row, an entry of a place,
+// and a head of a bucket.
 impl Lane {
     // The lane with no rows, and room for so many.
     pub fn empty(self, capacity: Held) -> Extent
@@ -118,7 +119,7 @@ impl Lane {
     }
 }
 
-// Where the words of a role stand in the header: a name for each, so that no other crate has its number.
+// Where the words of a role stand in the header: a method for each, so that no other crate has its number. One over an enum of the words would be the same names, and longer calls.
 impl Role {
     // Word f of a role.
     fn word(self, f: usize) -> usize
@@ -184,7 +185,7 @@ impl Role {
     }
 }
 
-// The lane of a role as the header has it; of fewer words than a header's, an empty one, so that nothing is asked of a caller.
+// The lane of a role as the header has it; of fewer words than a header's, an empty one, and no `None`: what each caller would do then is what it does with an empty lane, nothing.
 pub fn read(area: &[u64], role: Role) -> Extent
     ensures { Read area.now role result }
 {

@@ -54,7 +54,7 @@ pub fn index(page: &mut Page<'_>, entries: &[i32])
     for entry in entries {
         page.put_value(*entry);
     }
-    page.put(b"\n");
+    page.end_line();
 }
 
 // The lines of requests share how they begin, a running number and a text, which is `Page`'s: what stands behind these differs.
@@ -72,7 +72,7 @@ pub fn search(page: &mut Page<'_>, n: Ordinal, reply: Result<Found, Refusal>)
     }));
 }
 
-// The first and the last of some values, where there are any.
+// The first and the last of some values, where there are any. By index: with `first` and `last` (tried) the proof does not close.
 fn ends(page: &mut Page<'_>, part: &[i32])
     requires { HasRoom page.old 24 }
     ensures text { Puts page.old (ends_text part.now) page.new }
@@ -95,7 +95,7 @@ pub fn stretch(page: &mut Page<'_>, n: Ordinal, part: &[i32])
     page.put_ordinal(n, b" stretch ");
     page.put_number(part.len() as u64);
     ends(page, part);
-    page.put(b"\n");
+    page.end_line();
 }
 
 // A figure behind a space, or `-` where there is none.
@@ -141,7 +141,7 @@ pub fn rough(page: &mut Page<'_>, n: Ordinal, reply: Result<Figures, Refusal>)
 {
     page.put_ordinal(n, b" rough ");
     reading(page, reply);
-    page.put(b"\n");
+    page.end_line();
 }
 
 // The line of the n-th request, a `set`.

@@ -4,7 +4,8 @@
 ghost use Rattle.std.specs.Prelude.{◌≡◌, ◌+◌, ◌*◌, ◌≤◌, length};
 ghost use Rattle.numbers.specs.FourBytes.{number_at, value_at, values_from};
 
-// The number of the four bytes from an offset on.
+// The number of the four bytes from an offset on. The bytes and an offset are two parameters, and no slice from there on, as the definitions of a program's input have them: each number stands at an
+// offset of all bytes, which is printed where reading stops.
 pub fn number_at(bytes: &[u8], at: usize) -> u32
     requires { at + 4 ≤ length bytes.now }
     ensures { result ≡ number_at bytes.now at }

@@ -26,7 +26,7 @@ pub fn openings(rt: &(impl Print + Drop)) -> io::Result<()> {
     Ok(())
 }
 
-// A script on N words, which are opened. It stays beside `merges::play`, which fills the words before and counts them behind.
+// A script on N words, which are opened. It stays beside `merges::play`, which fills the words before and counts them behind: one function would take a flag for both.
 pub fn play<const N: usize>(rt: &(impl Print + Drop), script: &str) -> io::Result<()>
     requires { N * 8 < 2 ^ 63 }
 {

@@ -15,6 +15,7 @@ pub fn no_window(page: &mut Page<'_>)
     page.put(b"no window\n");
 }
 
+// What it has in common with the line of `lookup`'s building is `put_last_reply`: the text differs, and what the reply shows.
 pub fn opening(page: &mut Page<'_>, reply: Reply)
     requires { HasRoom page.old 32 }
     ensures text { Puts page.old (open_line (told reply)) page.new }

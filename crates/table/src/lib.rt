@@ -25,7 +25,7 @@ fn bucket(p: Position, capacity: Held) -> usize
     x * capacity.0 / 4294967296
 }
 
-// The mark of a row that is active at a position.
+// The mark of a row that is active at a position. That of a closed one is a word lower; both are read in `ranges::carry`. No type has these conversions: they would serve three lines.
 fn active_mark(p: Position) -> u64
     ensures { result ≡ 2 * p.0 + 1 }
 {

@@ -155,7 +155,7 @@ impl<'a> Page<'a> {
     }
 
     // A line's end.
-    fn end_line(&mut self)
+    pub fn end_line(&mut self)
         requires { HasRoom self.old 1 }
         ensures { Puts self.old newline self.new }
     {
