@@ -20,8 +20,8 @@ impl From<Result<Found, Refusal>> for FoundNumbers {
     ghost from_gives = { λ reply numbers. numbers ≡ in_numbers (told reply) };
 
     fn from(reply: Result<Found, Refusal>) -> FoundNumbers {
-        // Where nothing is shown, zeros, as a window's answer has them, and by the same form.
-        let found = reply.ok().unwrap_or(Found::default());
+        // Where nothing is shown, zeros.
+        let found = reply.ok().unwrap_or_default();
         FoundNumbers {
             number: u32::from(history::reply_number(reply)),
             value: found.value,

@@ -2,7 +2,7 @@
 ghost use Rattle.std.specs.Prelude.{◌≡◌};
 ghost use Rattle.firmware.specs.Windows.{window_from, outcome_of};
 
-use history::{Answer, Minimum, Position};
+use history::{Answer, Position};
 use window::Window;
 
 // A session: C's `filkotar_window`.
@@ -43,8 +43,8 @@ impl From<Answer<Window>> for WindowOutcome {
 
     fn from(a: Answer<Window>) -> WindowOutcome {
         let session = a.session;
-        // Where nothing is shown, zeros. By `unwrap_or_default()` a value takes 110 instructions, so 103.
-        let shown = a.reply.ok().flatten().unwrap_or(Minimum::default());
+        // Where nothing is shown, zeros.
+        let shown = a.reply.ok().flatten().unwrap_or_default();
         WindowOutcome {
             session: WindowNumbers {
                 words: session.words,
