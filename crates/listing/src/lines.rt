@@ -111,7 +111,7 @@ fn figure(page: &mut Page<'_>, known: Option<i32>)
 }
 
 // A rough reading: the reply's number, the looks used and both figures; of a refusal its number, no look and no figure. Where there are figures the number is 0, and the text has no more than
-// 46 bytes: twenty digits of looks, and two values.
+// 46 bytes: twenty digits of looks, and two values. The number stands in each arm, as in `Page::put_reply`: asked for before, by `reply_number`, it would be matched twice.
 #[tactic(auto, using(text::proofs::Decimals::word_few, text::proofs::ReplyTexts::number_few, text::proofs::ReplyTexts::zero_few))]
 fn reading(page: &mut Page<'_>, reading: Result<Figures, Refusal>)
     requires { HasRoom page.old 46 }
