@@ -1,10 +1,9 @@
--- `halves::first_near_top` meets its contract. The test holds of each number that was looked at: of the last one it is told. What is left after the looks is searched by halves.
+-- `halves::first_near_top` meets its contract. The test holds of the number at `top`; a turn asks about the one below it, and what is left after the looks is searched by halves.
 use Rattle.std.proofs.Common.{◌<◌, ◌≤◌, true}
 use Rattle.halves.proofs.first_near_top.Given as goal
 
-abbrev pub invariant-loop-k : goal.invariant-loop-k
-invariant-loop-k g l = record {
-  left : l.below ≤ l.k;
-  within : l.k ≤ l.count;
-  here : l.k < l.count → goal.F-post g l.test l.k true;
+abbrev pub invariant-loop : goal.invariant-loop
+invariant-loop g l = record {
+  within : l.top ≤ l.count;
+  here : l.top < l.count → goal.F-post g l.test l.top true;
 }
