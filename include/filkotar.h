@@ -8,11 +8,11 @@
  * What a call takes, beside its arguments, its answer and its return address:
  *
  *                              bytes of stack    of these below the stack pointer    registers other than the general ones
- *     filkotar_build           0                 0                                   xmm0 xmm1 xmm2 xmm3 xmm4
+ *     filkotar_build           8                 0                                   xmm0 xmm1 xmm2 xmm3 xmm4
  *     filkotar_gain            0                 0                                   none
- *     filkotar_rough           101               53                                  xmm0 xmm1 xmm2 xmm3 xmm4
- *     filkotar_search          88                40                                  xmm0 xmm1 xmm2 xmm3 xmm4
- *     filkotar_window_open     16                0                                   none
+ *     filkotar_rough           120               72                                  xmm0 xmm1 xmm2 xmm3 xmm4
+ *     filkotar_search          96                48                                  xmm0 xmm1 xmm2 xmm3 xmm4
+ *     filkotar_window_open     8                 0                                   none
  *     filkotar_window_value    48                0                                   none
  *
  * Those below the stack pointer are in the red zone of the calling convention: where an interrupt handler runs on the same stack, it has to leave these
