@@ -224,11 +224,8 @@ pub fn write_left(area: &mut [u64], role: Role, left: Held, run: Place)
 pub fn has_room(area: &[u64], rows: usize) -> bool
     ensures { Roomy area.now rows result }
 {
-    if MOST_ROWS < rows {
+    if area.len() < HEADER {
         return false;
     }
-    if area.len() < HEADER + 32 * rows {
-        return false;
-    }
-    true
+    rows <= ((area.len() - HEADER) / 32).min(MOST_ROWS)
 }

@@ -131,6 +131,7 @@ fn close_carried(area: &mut [u64], p: Position)
 }
 
 // A mark at a position after all others of a lane joins them, with its range minimum as a word. With no row to spare nothing is done. The lane as it is then.
+#[inline(always)]
 fn append(area: &mut [u64], e: Extent, p: Position, word: u64) -> Extent
     ensures { Appended area.old area.new e p word result }
 {
@@ -166,6 +167,7 @@ fn join(area: &mut [u64], role: Role, p: Position, word: u64)
 }
 
 // A row is carried into the next lane, if its mark is active, with its minimum as a word.
+#[inline(always)]
 fn carry(area: &mut [u64], e: Extent, held: Held, word: u64)
     ensures { Carried area.old area.new e held word }
 {
@@ -192,6 +194,7 @@ fn has_left(area: &[u64], role: Role) -> bool
 }
 
 // The next row of a lane is carried, if one is left.
+#[inline(always)]
 fn step(area: &mut [u64], role: Role)
     requires { 32 ≤ length area.old }
     ensures { Stepped area.old area.new role }
@@ -213,6 +216,7 @@ fn step(area: &mut [u64], role: Role)
 }
 
 // One row of the merge: the older lane's come first.
+#[inline(always)]
 fn merge_row(area: &mut [u64])
     requires { 32 ≤ length area.old }
     ensures { Merged area.old area.new }
@@ -292,6 +296,7 @@ fn turn(area: &mut [u64], active: usize, p: Position)
 }
 
 // A mark's share of the merge: two rows.
+#[inline(never)]
 fn merge(area: &mut [u64])
     requires { 32 ≤ length area.old }
     ensures { Shared area.old area.new }

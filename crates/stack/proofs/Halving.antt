@@ -22,23 +22,17 @@ late first row e = grind (arith, nat_tests)
 early : (first row : ℕ) → false ≡ ltb row first → first ≤ row
 early first row e = grind (arith, nat_tests)
 
-pub found : {w : List ℕ} {k : Lane} {height : Place} {h : Held} {n : ℕ} → n ≤ height.0 → (n < height.0 → true ≡ starts_after w k h.0 n)
-    → ((i : ℕ) → i + 1 ≡ n → false ≡ starts_after w k h.0 i) → Located w k height h (record { 0 = n - 1 })
-found {w} {k} {height} {h} {n} within here before = record { within = λ l. omega (arith, within); covers = covers }
+-- the search is among the places above the bottom
+pub found : {w : List ℕ} {k : Lane} {height : Place} {h : Held} {n : ℕ} → 0 < height.0 → n ≤ height.0 - 1 → (n < height.0 - 1 → true ≡ starts_after w k h.0 (n + 1))
+    → ((i : ℕ) → i + 1 ≡ n → false ≡ starts_after w k h.0 (i + 1)) → Located w k height h (record { 0 = n })
+found {w} {k} {height} {h} {n} some within here before = record { within = omega (arith, within); covers = covers }
   where
-    covers : (rows : Held) → Room w rows.0 → Stacked w k rows height → Lower h rows → Covers w k height (record { 0 = n - 1 }) h
-    covers rows r s m =
-        let some : 0 < height.0 = s.some (omega arith) in
-        let on : n - 1 < height.0 = omega (arith, within) in
-        record {
-          on = on;
-          from =
-              ⊎_elim (λ (z : n - 1 ≡ 0). omega (arith, ap (λ (i : ℕ). word w k i 5) z, ap (λ (g : Held). g.0) (s.bottom some)))
-              (λ (z : 0 < n - 1). omega (arith, early _ h.0 (before (n - 1) (omega arith))))
-              (eq-zero-or-pos (n - 1));
-          to =
-              ⊎_elim
-              (λ (e : n ≡ 0) (z : n - 1 + 1 < height.0). absurd (omega (arith, late _ h.0 (here (omega arith)), ap (λ (i : ℕ). word w k i 5) e, ap (λ (g : Held). g.0) (s.bottom some))))
-              (λ (l : 0 < n) (z : n - 1 + 1 < height.0). let e : n ≡ n - 1 + 1 = omega arith in rw e at (late _ h.0 (here (omega arith))))
-              (eq-zero-or-pos n);
-        }
+    covers : (rows : Held) → Room w rows.0 → Stacked w k rows height → Lower h rows → Covers w k height (record { 0 = n }) h
+    covers rows r s m = record {
+      on = omega (arith, within);
+      from =
+          ⊎_elim (λ (z : n ≡ 0). omega (arith, ap (λ (i : ℕ). word w k i 5) z, ap (λ (g : Held). g.0) (s.bottom some)))
+          (λ (l : 0 < n). let e : n - 1 + 1 ≡ n = omega arith in rw e at (early _ h.0 (before (n - 1) e)))
+          (eq-zero-or-pos n);
+      to = λ (z : n + 1 < height.0). late _ h.0 (here (omega arith));
+    }

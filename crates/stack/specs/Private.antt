@@ -19,7 +19,7 @@ pub record Parted (w : List ℕ) (k : Lane) (height : Place) (x : ℕ) (r : Plac
 abbrev pub starts_after : List ℕ → Lane → ℕ → ℕ → Bool
 starts_after w k h n = ltb h (word w k n 5)
 
--- `covering`: a place below the height where there is one, which in a stack is that of the run that has row h
+-- `covering`: a place below the height, which in a stack is that of the run that has row h
 pub record Located (w : List ℕ) (k : Lane) (height : Place) (h : Held) (r : Place) : Type 0 where
-  pub within : 0 < height.0 → Under r height
+  pub within : Under r height
   pub covers : (rows : Held) → Room w rows.0 → Stacked w k rows height → Lower h rows → Covers w k height r h

@@ -9,7 +9,7 @@ ghost use Rattle.stack.specs.Private.{is_above, Parted, starts_after, Located};
 use layout::{Extent, Held, Place};
 
 // The entries that a value looks at one by one, from the top down. What lies below them is searched by halves.
-const LOOKS: usize = 5;
+const LOOKS: usize = 4;
 
 // The lowest of a stack's places whose entry is above a word, or its height where none is: some looks from the top down, and then by halves (source document 000, Theorem 3).
 fn taken_over(area: &[u64], e: Extent, word: u64) -> Place
@@ -44,6 +44,7 @@ pub fn lower(area: &mut [u64], e: Extent, word: u64) -> Place
 
 // The row after the last gets a minimum. Source document 000's Mark pushes the value, "unless it is there already": where the top entry is the same word the row joins its run.
 // The new height.
+#[inline(always)]
 pub fn push(area: &mut [u64], e: Extent, word: u64) -> Place
     ensures { Pushed area.old area.new e.lane e.height e.rows word result }
 {
@@ -96,21 +97,22 @@ pub fn advance(area: &[u64], e: Extent, place: Place, row: Held) -> Place
     next
 }
 
-// The place whose run has a row: a predecessor search over the runs' first rows (source document 000, Theorem 3). It is the one before the first run that starts after the row.
+// The place whose run has a row: a predecessor search over the runs' first rows (source document 000, Theorem 3). It is the lowest place above which no run starts at the row or before it. Of mixed
+// values the lowest run is the longest, with about half of all rows, the next one with half of the others, and so on: so some looks from the bottom up come first.
 fn covering(area: &[u64], e: Extent, held: Held) -> Place
-    requires { Room area.now e.height.0 }
+    requires { (0 < e.height.0) × Room area.now e.height.0 }
     ensures { Located area.now e.lane e.height held result }
 {
     let lane = e.lane;
     let row = held.0 as u64;
-    let behind = halves::first_where(
-        e.height.0,
+    Place(halves::first_near_bottom(
+        e.height.0 - 1,
+        LOOKS,
         |k: usize| -> bool
-            requires { Room area.now (k + 1) }
-            ensures { result ≡ starts_after area.entry.now lane row k }
-        { row < area[lane.first(Place(k))] },
-    );
-    Place(behind.saturating_sub(1))
+            requires { Room area.now (k + 2) }
+            ensures { result ≡ starts_after area.entry.now lane row (k + 1) }
+        { row < area[lane.first(Place(k + 1))] },
+    ))
 }
 
 // The minimum that the stack has for a row, as a word.
@@ -120,5 +122,8 @@ pub fn least_at(area: &[u64], e: Extent, held: Held) -> Option<u64>
     if !layout::has_room(area, e.height.0) {
         return None;
     }
-    entry_at(area, e, covering(area, e, held))
+    if e.height == Place(0) {
+        return None;
+    }
+    Some(area[e.lane.least(covering(area, e, held))])
 }

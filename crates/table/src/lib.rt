@@ -9,10 +9,10 @@ ghost use Rattle.table.specs.Calls.{Sought, Inserted, Released};
 ghost use Rattle.table.specs.Private.{is_after, Halved, Walked};
 
 use history::Position;
-use layout::{Extent, Held};
+use layout::{Extent, Held, Lane};
 
 // The links that a walk along a chain follows at most. What lies further is found by halves.
-const LINKS: usize = 5;
+const LINKS: usize = 3;
 
 // The hash bucket of a position among as many as a lane has room for rows. Positions come at regular distances when a player plays in time; the multiplication spreads
 // them, and the sum those at just the distances that the multiplication would crowd.
@@ -33,14 +33,13 @@ fn active_mark(p: Position) -> u64
 }
 
 // The row of the active mark at a position by halves: the rows are in the order of their positions, and it is the one before the first whose mark is after the one sought.
-fn by_halves(area: &[u64], e: Extent, p: Position) -> Option<Held>
-    requires { (0 < e.rows.0) × Room area.now e.rows.0 }
-    ensures { Halved area.now e.lane e.rows p result }
+fn by_halves(area: &[u64], lane: Lane, rows: Held, p: Position) -> Option<Held>
+    requires { (0 < rows.0) × Room area.now rows.0 }
+    ensures { Halved area.now lane rows p result }
 {
-    let lane = e.lane;
     let sought = active_mark(p);
     let behind = halves::first_where(
-        e.rows.0,
+        rows.0,
         |n: usize| -> bool
             requires { Room area.now (n + 1) }
             ensures { result ≡ is_after area.entry.now lane sought n }
@@ -54,18 +53,19 @@ fn by_halves(area: &[u64], e: Extent, p: Position) -> Option<Held>
 }
 
 // Further along the chain that has a row: some links, and then by halves. A chain leads to ever earlier rows, and so to ever earlier positions.
-fn further(area: &[u64], e: Extent, p: Position, from: Held) -> Option<Held>
-    requires { (from.0 < e.rows.0) × Room area.now e.rows.0 }
-    ensures { Walked area.now e.lane e.rows p from result }
+#[inline(never)]
+fn further(area: &[u64], lane: Lane, rows: Held, p: Position, from: Held) -> Option<Held>
+    requires { (from.0 < rows.0) × Room area.now rows.0 }
+    ensures { Walked area.now lane rows p from result }
 {
     let sought = active_mark(p);
     let mut top = from;
     for _ in 0..LINKS {
-        let g = Held(area[e.lane.link(top)] as usize);
+        let g = Held(area[lane.link(top)] as usize);
         if top <= g {
             return None;
         }
-        let mark = area[e.lane.mark(g)];
+        let mark = area[lane.mark(g)];
         if mark == sought {
             return Some(g);
         }
@@ -74,10 +74,11 @@ fn further(area: &[u64], e: Extent, p: Position, from: Held) -> Option<Held>
         }
         top = g;
     }
-    by_halves(area, e, p)
+    by_halves(area, lane, rows, p)
 }
 
 // The row of the active mark at a position, in a lane. The walk ends on any contents.
+#[inline(always)]
 pub fn find(area: &[u64], e: Extent, p: Position) -> Option<Held>
     ensures { Sought area.now e.lane e.rows e.capacity p result }
 {
@@ -97,10 +98,11 @@ pub fn find(area: &[u64], e: Extent, p: Position) -> Option<Held>
     if area[e.lane.mark(g)] == active_mark(p) {
         return Some(g);
     }
-    further(area, e, p, g)
+    further(area, e.lane, e.rows, p, g)
 }
 
 // The next row becomes an active mark at a position, at the head of its bucket's chain; with no row to spare nothing is done.
+#[inline(always)]
 pub fn insert(area: &mut [u64], e: Extent, p: Position)
     ensures { Inserted area.old area.new e.lane e.rows e.capacity p }
 {

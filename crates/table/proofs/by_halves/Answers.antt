@@ -9,7 +9,7 @@ use Rattle.table.proofs.by_halves.Goals as goal
 pub returns-then-area-mark : goal.returns-then-area-mark
 returns-then-area-mark c =
     let a = c.args in
-    let l : Live a.area.now a.e.lane a.e.rows a.p (record { 0 = c.saturating_sub.result }) = record { row = omega (arith, c.saturating_sub.ensures, c.first_where-behind.ensures.within, c.requires.0); mark = rw (← c.mark.ensures, ← c.active_mark-sought.ensures) c.if-area-mark.true } in
+    let l : Live a.area.now a.lane a.rows a.p (record { 0 = c.saturating_sub.result }) = record { row = omega (arith, c.saturating_sub.ensures, c.first_where-behind.ensures.within, c.requires.0); mark = rw (← c.mark.ensures, ← c.active_mark-sought.ensures) c.if-area-mark.true } in
     record { sound = own_row l; complete = only_row l }
 
 pub returns : goal.returns
@@ -18,5 +18,5 @@ returns c =
     let s = c.first_where-behind.ensures in
     record {
       sound = λ h e. cc;
-      complete = λ rising h l. absurd (missed a.area.now a.e.lane s.here s.before s.within (λ e. c.if-area-mark.false (rw (c.mark.ensures, c.saturating_sub.ensures) e)) (ascending a.area.now a.e.lane a.e.rows rising) h.0 l.row (rw c.active_mark-sought.ensures l.mark));
+      complete = λ rising h l. absurd (missed a.area.now a.lane s.here s.before s.within (λ e. c.if-area-mark.false (rw (c.mark.ensures, c.saturating_sub.ensures) e)) (ascending a.area.now a.lane a.rows rising) h.0 l.row (rw c.active_mark-sought.ensures l.mark));
     }

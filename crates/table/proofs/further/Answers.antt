@@ -32,7 +32,7 @@ pub returns-then-mark-sought : goal.returns-then-mark-sought
 returns-then-mark-sought c =
     let a = c.args in
     let g : Held = record { 0 = get_or a.area.now c.link.result 0 } in
-    let l : Live a.area.now a.e.lane a.e.rows a.p g = record {
+    let l : Live a.area.now a.lane a.rows a.p g = record {
       row = omega (arith, older (goal.at.returns-then-mark-sought c).Else-le);
       mark = rw (← c.mark.ensures, ← c.active_mark-sought.ensures) c.if-mark-sought.true;
     } in
@@ -45,9 +45,9 @@ returns-then-mark-sought-2 c =
     record {
       sound = λ h e. cc;
       complete = λ rising h l d.
-          let m : mark_word a.area.now a.e.lane h ≡ c.active_mark-sought.result = rw c.active_mark-sought.ensures l.mark in
-          let on : Chain a.area.now a.e.lane h c.loop.top g = rw c.link.ensures (c.loop.invariant.rest h m d) in
-          absurd (too_early a.area.now a.e.lane a.e.rows {g = g} rising (omega (arith, older (goal.at.returns-then-mark-sought-2 c).Else-le)) (rw (← c.mark.ensures, m) c.if-mark-sought-2.true) on);
+          let m : mark_word a.area.now a.lane h ≡ c.active_mark-sought.result = rw c.active_mark-sought.ensures l.mark in
+          let on : Chain a.area.now a.lane h c.loop.top g = rw c.link.ensures (c.loop.invariant.rest h m d) in
+          absurd (too_early a.area.now a.lane a.rows {g = g} rising (omega (arith, older (goal.at.returns-then-mark-sought-2 c).Else-le)) (rw (← c.mark.ensures, m) c.if-mark-sought-2.true) on);
     }
 
 pub loop-preserved : goal.loop-preserved
