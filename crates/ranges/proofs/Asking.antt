@@ -53,13 +53,13 @@ module _ (h : History) (first w : List ℕ) (p : Position) (k : Holds h first w)
       ∙ ap (λ (b : Bool). among p (marks_in w s.older) || b) (among-append p (marks_in w s.younger) (marks_in w s.active))
 
   pub not_older : s.middle.0 ≤ p.0 → among p (marks_in w s.older) ≡ false
-  not_older l = out_of_span w s.older s.older.rows p origin s.middle (omega arith) k.laid.in_older (λ a b. omega arith)
+  not_older l = out_of_span w s.older p origin s.middle k.laid.in_older (λ a b. omega arith)
 
   pub not_younger : (s.middle.0 ≤ p.0 → p.0 < s.start.0 → ⊥) → among p (marks_in w s.younger) ≡ false
-  not_younger n = out_of_span w s.younger s.younger.rows p s.middle s.start (omega arith) k.laid.in_younger n
+  not_younger n = out_of_span w s.younger p s.middle s.start k.laid.in_younger n
 
   pub not_active : p.0 < s.start.0 → among p (marks_in w s.active) ≡ false
-  not_active l = out_of_span w s.active s.active.rows p s.start (upcoming h.values) (omega arith) k.laid.in_active (λ a b. omega arith)
+  not_active l = out_of_span w s.active p s.start (upcoming h.values) k.laid.in_active (λ a b. omega arith)
 
   pub among_lane : (role : Role) → Where w p role → among p h.active ≡ among p (marks_in w (extent_of w role))
   among_lane Active (in_active_lem l) = parts ∙ (λ i. not_older (omega (arith, k.laid.order)) i || (not_younger (λ a b. omega arith) i || among p (marks_in w s.active)))

@@ -1,6 +1,6 @@
 -- A CLOSE of words that hold a history: the mark's position is struck from every lane.
 use mathlib.Core.Path.{◌≡◌, refl, sym, ap, subst, ◌∙◌}
-use mathlib.Core.Bool.{false, ◌||◌}
+use mathlib.Core.Bool.{false}
 use mathlib.Core.List.{List}
 use Rattle.std.specs.Prelude.{Option, None, Some}
 use Prim.Native.Nat.{ℕ, ◌+◌, ◌*◌, ◌<◌, ◌≤◌}
@@ -19,20 +19,17 @@ use Rattle.layout.specs.declared.Extent.{Extent}
 use Rattle.layout.specs.declared.Role.TheVariants.{Active, Next}
 use Rattle.layout.specs.Words.{Earlier, row₀, position, extent_of}
 use Rattle.layout.specs.Frames.{SameLane, Other}
-use Rattle.layout.specs.Frames as Frames
-use Rattle.layout.proofs.Written.{each_kind, lane_then, lane_stays}
+use Rattle.layout.proofs.Written.{lane_then, lane_stays}
 use Rattle.table.specs.Marks.{After, Live, released}
 use Rattle.table.specs.Calls.{Sought, Released}
 use Rattle.table.proofs.Active.{among_live, live_position, not_among}
-use Rattle.table.proofs.Kept.{active_same}
-use Rattle.table.proofs.Positions.{among-append}
 use Rattle.table.proofs.Closing.{release_within}
-use Rattle.ranges.specs.Holding.{origin, LaneHolds, Roles, roles_of, marks_in, marks_before, Holds}
+use Rattle.ranges.specs.Holding.{LaneHolds, Roles, roles_of, marks_in, Holds}
 use Rattle.ranges.specs.Private.{ClosedNext}
 use Rattle.ranges.proofs.Lanes.{lane_same}
 use Rattle.ranges.proofs.Header.{roles_same}
 use Rattle.ranges.proofs.Later.{rooms}
-use Rattle.ranges.proofs.Striking.{out_of_span, before_row, Struck, struck_released, struck_same, struck_later, struck_sooner, struck_laid, struck_marks}
+use Rattle.ranges.proofs.Striking.{Struck, struck_released, struck_same, struck_later, struck_sooner, struck_laid, struck_marks}
 use Rattle.ranges.proofs.Upkeep.{holds_by}
 use Rattle.ranges.proofs.Asking.{not_older, not_younger, not_active}
 
@@ -74,11 +71,11 @@ closed_active h first w p k g l live =
     (λ j b. i.beyond j (omega (arith, k.laid.active_below, k.laid.active.linked.full)))
 
 -- the next lane after it is closed there, too, if it was carried
-pub record Tail (u v : List ℕ) (n : Extent) (p : Position) : Type 0 where
-  pub struck : Struck u v n p
-  pub others : (j : Lane) → Other j n.lane → SameLane j u v
-  pub header : (j : ℕ) → j < 32 → get_or v j 0 ≡ get_or u j 0
-  pub beyond : (j : ℕ) → 32 + 32 * n.rows.0 ≤ j → get_or v j 0 ≡ get_or u j 0
+record Tail (u v : List ℕ) (n : Extent) (p : Position) : Type 0 where
+  struck : Struck u v n p
+  others : (j : Lane) → Other j n.lane → SameLane j u v
+  header : (j : ℕ) → j < 32 → get_or v j 0 ≡ get_or u j 0
+  beyond : (j : ℕ) → 32 + 32 * n.rows.0 ≤ j → get_or v j 0 ≡ get_or u j 0
 
 tail : {u v : List ℕ} {n : Extent} {p : Position} {vs : List ℤ} → extent_of u Next ≡ n → LaneHolds u n vs → ClosedNext u v p → Tail u v n p
 tail {u} {v} {n} {p} {vs} e b q = go q.found refl
@@ -115,49 +112,13 @@ module _ (h : History) (first w v : List ℕ) (p : Position) (k : Holds h first 
   abbrev t : Roles
   t = roles_of w
 
-  -- it was carried, or perhaps not: it is looked for in the next lane
-  module _ (e : Extent) (live : Live w e.lane e.rows p g) (o : Other t.next.lane e.lane) where
-    abbrev u : List ℕ
-    u = released w e.lane g
-
-    pub reached : ClosedNext u v p → Tail u v t.next p
-    reached q =
-        let i = release_within w e.lane e.rows g live.row in
-        tail (ap (λ (x : Roles). x.next) (roles_same w u i.header)) (lane_same i.long (i.others t.next.lane o) k.laid.next) q
-
-    -- it was not carried: the next lane does not have it
-    pub kept : among p (marks_in w t.next) ≡ false → Tail u u t.next p
-    kept f =
-        let i = release_within w e.lane e.rows g live.row in
-        record {
-          struck = struck_same t.next p refl (lane_stays t.next.lane u) (ap (among p) (active_same (each_kind (i.others t.next.lane o) Frames.row) t.next.rows.0) ∙ f);
-          others = λ j x. lane_stays j u;
-          header = λ j c. refl;
-          beyond = λ j c. refl;
-        }
-
-  -- the next lane has the marks of the rows carried alone
-  carried_none : among p (marks_before w t.older t.older_left) ≡ false → among p (marks_before w t.younger t.younger_left) ≡ false → among p (marks_in w t.next) ≡ false
-  carried_none a b =
-      ap (among p) k.laid.merging.carried ∙ among-append p (marks_before w t.older t.older_left) (marks_before w t.younger t.younger_left)
-      ∙ (λ i. a i || b i)
-
-  pub left_younger : t.middle.0 ≤ p.0 → Live w t.younger.lane t.younger.rows p g → t.younger_left.0 ≤ g.0 → among p (marks_in w t.next) ≡ false
-  left_younger a live l =
-      carried_none (out_of_span w t.older t.older_left p origin t.middle k.laid.merging.older_some k.laid.in_older (λ b c. omega arith))
-      (before_row w t.younger g t.younger_left p k.laid.younger.linked.rising live l)
-
-  pub left_older : p.0 < t.middle.0 → Live w t.older.lane t.older.rows p g → t.older_left.0 ≤ g.0 → among p (marks_in w t.next) ≡ false
-  left_older a live l =
-      carried_none (before_row w t.older g t.older_left p k.laid.older.linked.rising live l)
-      (out_of_span w t.younger t.younger_left p t.middle t.start k.laid.merging.younger_some k.laid.in_younger (λ b c. omega arith))
-
-  pub closed_younger : p.0 < t.start.0 → t.middle.0 ≤ p.0 → Live w t.younger.lane t.younger.rows p g → Tail (released w t.younger.lane g) v t.next p
+  pub closed_younger : p.0 < t.start.0 → t.middle.0 ≤ p.0 → Live w t.younger.lane t.younger.rows p g → ClosedNext (released w t.younger.lane g) v p
       → Holds (accept h (Close p)).history first v
-  closed_younger a b live r =
+  closed_younger a b live q =
       let i = release_within w t.younger.lane t.younger.rows g live.row in
       let u = released w t.younger.lane g in
       let n = i.others t.next.lane (λ z. k.laid.apart.yn (sym z)) in
+      let r = tail (ap (λ (x : Roles). x.next) (roles_same w u i.header)) (lane_same i.long n k.laid.next) q in
       let stays : (j : Lane) → Other j t.younger.lane → Other j t.next.lane → SameLane j w v = λ j o m. lane_then (i.others j o) (r.others j m) in
       let long : length v ≡ length w = r.struck.long ∙ i.long in
       struck_holds h first w v p k (roles_same u v r.header ∙ roles_same w u i.header)
@@ -167,12 +128,13 @@ module _ (h : History) (first w v : List ℕ) (p : Position) (k : Holds h first 
       (struck_sooner i.long n r.struck)
       (λ j c. r.beyond j (omega (arith, k.laid.next_below, k.laid.next.linked.full)) ∙ i.beyond j (omega (arith, k.laid.younger_below, k.laid.younger.linked.full)))
 
-  pub closed_older : p.0 < t.start.0 → p.0 < t.middle.0 → Live w t.older.lane t.older.rows p g → Tail (released w t.older.lane g) v t.next p
+  pub closed_older : p.0 < t.start.0 → p.0 < t.middle.0 → Live w t.older.lane t.older.rows p g → ClosedNext (released w t.older.lane g) v p
       → Holds (accept h (Close p)).history first v
-  closed_older a b live r =
+  closed_older a b live q =
       let i = release_within w t.older.lane t.older.rows g live.row in
       let u = released w t.older.lane g in
       let n = i.others t.next.lane (λ z. k.laid.apart.on (sym z)) in
+      let r = tail (ap (λ (x : Roles). x.next) (roles_same w u i.header)) (lane_same i.long n k.laid.next) q in
       let stays : (j : Lane) → Other j t.older.lane → Other j t.next.lane → SameLane j w v = λ j o m. lane_then (i.others j o) (r.others j m) in
       let long : length v ≡ length w = r.struck.long ∙ i.long in
       struck_holds h first w v p k (roles_same u v r.header ∙ roles_same w u i.header)

@@ -24,7 +24,7 @@ use Rattle.layout.specs.declared.Place.{Place}
 use Rattle.layout.specs.declared.Extent.{Extent}
 use Rattle.layout.specs.declared.Role.{Role}
 use Rattle.layout.specs.declared.Role.TheVariants.{Active, Younger, Older, Next}
-use Rattle.layout.specs.Words.{Under, bottom, least_word, extent_of, start_of, left_of, Room, puts}
+use Rattle.layout.specs.Words.{Under, bottom, least_word, extent_of, start_of, Room, puts}
 use Rattle.layout.proofs.Written.{wrote_header}
 use Rattle.layout.proofs.Puts.{puts_lanes}
 use Rattle.table.specs.Marks.{Live, released}
@@ -41,7 +41,7 @@ use Rattle.ranges.proofs.Bounds.{nothing_done, done_then, header_inside, within_
 use Rattle.ranges.proofs.Later.{rooms}
 use Rattle.ranges.proofs.Upkeep.{opening_puts, opened_holds, valued_holds}
 use Rattle.ranges.proofs.Asking.{where_is, end_of, lane_of, found_active, lost_inactive, shown_word, now_word}
-use Rattle.ranges.proofs.Forgetting.{closed_active, reached, kept, left_younger, left_older, closed_younger, closed_older}
+use Rattle.ranges.proofs.Forgetting.{closed_active, closed_younger, closed_older}
 use Rattle.ranges.proofs.Joining.{ready, joined_holds}
 
 -- words that hold a history are no fewer than 64
@@ -228,7 +228,7 @@ module _ (w : List ℕ) (p : Position) (role : Role) (e : Extent) (own : e ≡ e
             subst (Holds (accept h (Close p)).history first) (sym (history_words h first k Active a)) (closed_active h first w p k g l (live_in Active a));
       }
 
-      -- or it stands still, and was carried
+      -- or it stands still, and was perhaps carried
       pub close_still : (v : List ℕ) → (role ≡ Active → ⊥) → ClosedNext u v p → Closed w v p true
       close_still v n q₂ = record {
         inside = done_then closed_inside (next_inside q₂);
@@ -238,39 +238,10 @@ module _ (w : List ℕ) (p : Position) (role : Role) (e : Extent) (own : e ≡ e
         holds = λ h first k z. let l : p.0 < (start_of w Active).0 = earlier n in elim (dec_lt p.0 (start_of w Younger).0) [
           | yes b ↦
               let a = c.older l b in
-              let there = live_in Older a in
-              closed_older h first w v p k g l b there
-              (reached h first w v p k g (extent_of w Older) there (λ e. k.laid.apart.on (sym e)) (subst (λ (x : List ℕ). ClosedNext x v p) (history_words h first k Older a) q₂))
+              closed_older h first w v p k g l b (live_in Older a) (subst (λ (x : List ℕ). ClosedNext x v p) (history_words h first k Older a) q₂)
           | no b ↦
               let a = c.younger l (omega (arith, b)) in
-              let there = live_in Younger a in
-              closed_younger h first w v p k g l (omega (arith, b)) there
-              (reached h first w v p k g (extent_of w Younger) there (λ e. k.laid.apart.yn (sym e)) (subst (λ (x : List ℕ). ClosedNext x v p) (history_words h first k Younger a) q₂))
-        ];
-      }
-
-      -- or it stands still, and is still to be carried
-      pub close_left : (role ≡ Active → ⊥) → (left_of w role).0 ≤ g.0 → Closed w u p true
-      close_left n m = record {
-        inside = closed_inside;
-        none = λ z. absurd (true≢false z);
-        live = λ z. (role, g, live);
-        found = λ h first k. sym (is_there h first k);
-        holds = λ h first k z. let l : p.0 < (start_of w Active).0 = earlier n in elim (dec_lt p.0 (start_of w Younger).0) [
-          | yes b ↦
-              let a = c.older l b in
-              let there = live_in Older a in
-              let v = released w (extent_of w Older).lane g in
-              subst (Holds (accept h (Close p)).history first) (sym (history_words h first k Older a))
-              (closed_older h first w v p k g l b there
-              (kept h first w v p k g (extent_of w Older) there (λ e. k.laid.apart.on (sym e)) (left_older h first w v p k g b there (rw a at m))))
-          | no b ↦
-              let a = c.younger l (omega (arith, b)) in
-              let there = live_in Younger a in
-              let v = released w (extent_of w Younger).lane g in
-              subst (Holds (accept h (Close p)).history first) (sym (history_words h first k Younger a))
-              (closed_younger h first w v p k g l (omega (arith, b)) there
-              (kept h first w v p k g (extent_of w Younger) there (λ e. k.laid.apart.yn (sym e)) (left_younger h first w v p k g (omega (arith, b)) there (rw a at m))))
+              closed_younger h first w v p k g l (omega (arith, b)) (live_in Younger a) (subst (λ (x : List ℕ). ClosedNext x v p) (history_words h first k Younger a) q₂)
         ];
       }
 

@@ -15,7 +15,7 @@ use Rattle.layout.specs.Words.{Earlier, row₀, position}
 use Rattle.layout.specs.Frames.{SameLane, Same}
 use Rattle.layout.specs.Frames as Frames
 use Rattle.layout.proofs.Written.{each_kind}
-use Rattle.table.specs.Marks.{Rising, After, Live, active_below, released}
+use Rattle.table.specs.Marks.{After, Live, active_below, released}
 use Rattle.table.proofs.Kept.{active_same, position_same}
 use Rattle.table.proofs.Active.{among_live, live_position, below_split}
 use Rattle.table.proofs.Positions.{among-append, without-append, without_none, without_fewer}
@@ -78,23 +78,13 @@ struck_sooner {p = p} l s a = record {
   marks = λ n b. a.marks n b ∙ ap (without p) (active_same (each_kind s Frames.row) n);
 }
 
--- a position outside a lane's span is not among the marks of its rows before one
-pub out_of_span : (w : List ℕ) (e : Extent) (h : Held) (p from to : Position) → h.0 ≤ e.rows.0 → Spans w e from to → (from.0 ≤ p.0 → Earlier p to → ⊥)
-    → among p (marks_before w e h) ≡ false
-out_of_span w e h p from to l s n = refuted (among p (marks_before w e h)) (λ t.
-    let m = among_live w e.lane h p t in
-    let here : (position w e.lane m.0).0 ≡ p.0 = ap (λ (q : Position). q.0) (live_position w e.lane h p m.0 m.1) in
-    let b = s m.0 (omega (arith, m.1.row)) in
+-- a position outside a lane's span is not among its marks
+pub out_of_span : (w : List ℕ) (e : Extent) (p from to : Position) → Spans w e from to → (from.0 ≤ p.0 → Earlier p to → ⊥) → among p (marks_in w e) ≡ false
+out_of_span w e p from to s n = refuted (among p (marks_in w e)) (λ t.
+    let m = among_live w e.lane e.rows p t in
+    let here : (position w e.lane m.0).0 ≡ p.0 = ap (λ (q : Position). q.0) (live_position w e.lane e.rows p m.0 m.1) in
+    let b = s m.0 m.1.row in
     n (omega arith) (omega arith))
-
--- nor is the position of a row among those of the rows before it
-pub before_row : (w : List ℕ) (e : Extent) (g h : Held) (p : Position) → Rising w e.lane e.rows → Live w e.lane e.rows p g → h.0 ≤ g.0 → among p (marks_before w e h) ≡ false
-before_row w e g h p up live l = refuted (among p (marks_before w e h)) (λ t.
-    let m = among_live w e.lane h p t in
-    let here : (position w e.lane m.0).0 ≡ p.0 = ap (λ (q : Position). q.0) (live_position w e.lane h p m.0 m.1) in
-    let there : (position w e.lane g).0 ≡ p.0 = ap (λ (q : Position). q.0) (live_position w e.lane e.rows p g live) in
-    let b = up m.0 g (omega (arith, m.1.row)) live.row in
-    omega arith)
 
 -- what is struck from a lane's rows before one is struck from all of them
 fewer : {w v : List ℕ} {e : Extent} {p : Position} → Struck w v e p → (h : Held) → h.0 ≤ e.rows.0

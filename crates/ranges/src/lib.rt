@@ -101,7 +101,7 @@ pub fn look_up(area: &[u64], p: Position) -> Option<Minimum>
 }
 
 // The active mark at a position is closed; where there is none nothing is done. Whether there was one. "The Close command is applied to all the structures, including the
-// destination structure": a mark that was carried, which those of the rows before the next one to be carried were, is closed in the next lane too.
+// destination structure": a mark that was carried is closed in the next lane too.
 pub fn close(area: &mut [u64], p: Position) -> bool
     ensures { Closed area.old area.new p result }
 {
@@ -113,12 +113,8 @@ pub fn close(area: &mut [u64], p: Position) -> bool
     let Some(held) = table::find(area, e, p) else {
         return false;
     };
-    let left = Held(area[role.left()] as usize);
     table::release(area, e, held);
-    if role == Role::Active {
-        return true;
-    }
-    if held < left {
+    if role != Role::Active {
         close_carried(area, p);
     }
     true
