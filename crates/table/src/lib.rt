@@ -20,9 +20,9 @@ fn bucket(p: Position, capacity: Held) -> usize
     requires { (0 < capacity.0) × (capacity.0 ≤ 8207) }
     ensures { (result < capacity.0) × (result ≡ bucket_of p capacity) }
 {
-    let q = p.0 as usize;
-    let x = (q + q / 2048) * 2654435769 % 4294967296;
-    x * capacity.0 / 4294967296
+    let q = p.0;
+    let x = q.wrapping_add(q / 2048).wrapping_mul(2654435769);
+    x as usize * capacity.0 / 4294967296
 }
 
 // The mark of a row that is active at a position. That of a closed one is a word lower; both are read in `ranges::carry`. No type has these conversions: they would serve three lines.
