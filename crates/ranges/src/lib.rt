@@ -1,10 +1,11 @@
 // The marks that the lent words hold, each with its range minimum. This is all that the engine knows of the words: they are opened, a value comes, a mark is appended, a mark
 // is closed, a mark is looked up. No call does more than a fixed number of steps, but for searches by halves: source document 000, Lemma 7 and Theorem 3, "in real time".
+// What is on the way of each call is inlined, here and in `table` and `stack`; where a way seldom goes there is a call, `table::further` and `share` (decision 90).
 #![tactic(auto)]
 
 ghost use Rattle.std.specs.Prelude.{◌≡◌, ◌<◌, ◌≤◌, length};
 ghost use Rattle.ranges.specs.Calls.{Opened, Valued, Marked, LookedUp, Closed};
-ghost use Rattle.ranges.specs.Private.{Chosen, LowerOf, UpToStart, UpToNow, ClosedNext, Appended, Joined, Carried, has_left, Stepped, Merged, Finished, size_for, Turned, Shared};
+ghost use Rattle.ranges.specs.Private.{Chosen, LowerOf, UpToStart, UpToNow, ClosedNext, Appended, Joined, Carried, has_left, Stepped, Merged, Finished, size_for, Turned, Share, Shared};
 
 use history::{Minimum, Position};
 use layout::{Extent, Held, Lane, Place, Role};
@@ -154,7 +155,7 @@ fn append(area: &mut [u64], e: Extent, p: Position, word: u64) -> Extent
 }
 
 // A mark at a position after all others of a role's lane joins them, with its range minimum as a word, and the header has its rows and its height as they are then.
-// The lane and its room stay, so that two words are written, and not the four of `layout::write`; and it is inlined: as calls it made the longest Mark some fifty instructions longer.
+// The lane and its room stay, so that two words are written, and not the four of `layout::write`.
 #[inline(always)]
 fn join(area: &mut [u64], role: Role, p: Position, word: u64)
     requires { 32 ≤ length area.old }
@@ -295,8 +296,18 @@ fn turn(area: &mut [u64], active: usize, p: Position)
     layout::write_left(area, Role::Younger, Held(0), Place(0));
 }
 
-// A mark's share of the merge: two rows.
+// A mark's share of a merge: two rows, and the end if none is left. It stays a call, the one of a Mark.
 #[inline(never)]
+fn share(area: &mut [u64])
+    requires { 32 ≤ length area.old }
+    ensures { Share area.old area.new }
+{
+    merge_row(area);
+    merge_row(area);
+    finish(area);
+}
+
+// A mark's share of the merge, if one is under way: if there is a younger lane.
 fn merge(area: &mut [u64])
     requires { 32 ≤ length area.old }
     ensures { Shared area.old area.new }
@@ -304,9 +315,7 @@ fn merge(area: &mut [u64])
     if area[Role::Younger.rows()] == 0 {
         return;
     }
-    merge_row(area);
-    merge_row(area);
-    finish(area);
+    share(area);
 }
 
 // A mark at the present position joins the others, of which so many are active, with its range minimum.

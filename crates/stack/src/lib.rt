@@ -9,7 +9,7 @@ ghost use Rattle.stack.specs.Private.{is_above, Parted, starts_after, Located};
 use layout::{Extent, Held, Place};
 
 // The entries that a value looks at one by one, from the top down. What lies below them is searched by halves.
-const LOOKS: usize = 4;
+const LOOKS: usize = 5;
 
 // The lowest of a stack's places whose entry is above a word, or its height where none is: some looks from the top down, and then by halves (source document 000, Theorem 3).
 fn taken_over(area: &[u64], e: Extent, word: u64) -> Place

@@ -14,7 +14,7 @@ use layout::{Extent, Held, Lane};
 // The links that a walk along a chain follows at most. What lies further is found by halves.
 const LINKS: usize = 3;
 
-// The hash bucket of a position among as many as a lane has room for rows. Positions come at regular distances when a player plays in time; the multiplication spreads
+// The hash bucket of a position among as many as a lane has room for rows. Positions come at regular distances when a player plays in time; the multiplication, modulo 2^32, spreads
 // them, and the sum those at just the distances that the multiplication would crowd.
 fn bucket(p: Position, capacity: Held) -> usize
     requires { (0 < capacity.0) × (capacity.0 ≤ 8207) }
@@ -52,7 +52,7 @@ fn by_halves(area: &[u64], lane: Lane, rows: Held, p: Position) -> Option<Held>
     None
 }
 
-// Further along the chain that has a row: some links, and then by halves. A chain leads to ever earlier rows, and so to ever earlier positions.
+// Further along the chain that has a row: some links, and then by halves. A chain leads to ever earlier rows, and so to ever earlier positions. It stays a call: of ten searches nine end before.
 #[inline(never)]
 fn further(area: &[u64], lane: Lane, rows: Held, p: Position, from: Held) -> Option<Held>
     requires { (from.0 < rows.0) × Room area.now rows.0 }
