@@ -166,20 +166,15 @@ pub fn acceptances_of(reply: Reply) -> usize
     usize::from(reply.is_ok())
 }
 
-// What every call with a session asks first, where N words were opened and n are lent: 4 without an opening, then 5 for another length. The lengths are compared first, and which of the two is due
-// where they differ is asked behind that: asked one after the other in the papers' order, the compiler makes one test of both of them, which takes each command three instructions more.
+// What every call with a session asks first, where N words were opened and n are lent: 4 without an opening, then 5 for another length.
 pub fn lent(opened: usize, n: usize) -> Result<(), Refusal>
     ensures { number_told result ≡ lent_refusal opened n 0 }
 {
-    if n != opened {
-        return Err(if opened == 0 {
-            Refusal::Unopened
-        } else {
-            Refusal::OtherLength
-        });
-    }
     if opened == 0 {
         return Err(Refusal::Unopened);
+    }
+    if n != opened {
+        return Err(Refusal::OtherLength);
     }
     Ok(())
 }
