@@ -9,7 +9,7 @@ use native.Mathlib.Omega.{arith}
 use Rattle.layout.specs.declared.Held.{Held}
 use Rattle.layout.specs.declared.Place.{Place}
 use Rattle.layout.specs.declared.Lane.{Lane}
-use Rattle.layout.specs.Words.{Under, above, bottom, word, least_word, first}
+use Rattle.layout.specs.Words.{NotHigher, Under, NotAbove, above, bottom, word, least_word, first}
 use Rattle.stack.specs.Entries.{Stacked, Rests}
 
 -- the entries of v are those of w with the word x as the top, whose run starts at row f
@@ -37,7 +37,7 @@ module _ {w v : List ℕ} {k : Lane} {top : Place} {x f : ℕ} (g : Grown w v k 
   least_top t e = ap (λ (i : ℕ). word v k i 4) e ∙ g.new
 
   -- the runs below with the new top's are a stack of as many rows or more
-  pub stacked_grown : {old rows : Held} {height : Place} → Stacked w k old height → top.0 ≤ height.0 → old.0 ≤ rows.0 → Continues w k rows top x f
+  pub stacked_grown : {old rows : Held} {height : Place} → Stacked w k old height → NotAbove top height → NotHigher old rows → Continues w k rows top x f
       → Stacked v k rows (above top)
   stacked_grown {old} {rows} {height} s p o on = record {
     low = omega (arith, on.low);
@@ -74,7 +74,7 @@ module _ {w v : List ℕ} {k : Lane} {top : Place} {x f : ℕ} (g : Grown w v k 
   }
 
   -- a row of a run below keeps its word, where the top's run starts above it
-  pub below_grown : {height : Place} {h : Held} {y : ℕ} (r : Rests w k height h y) → top.0 ≤ height.0 → r.place.0 < top.0 → h.0 < f
+  pub below_grown : {height : Place} {h : Held} {y : ℕ} (r : Rests w k height h y) → NotAbove top height → Under r.place top → h.0 < f
       → Rests v k (above top) h y
   below_grown {height} {h} r q l b =
       let t = r.place in
