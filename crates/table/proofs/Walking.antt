@@ -1,5 +1,5 @@
 -- A walk along the chain after row `from`, down to row `top`: a row with the mark sought is on the chain that is left.
-use mathlib.Core.Path.{◌≡◌}
+use mathlib.Core.Path.{◌≡◌, ap, ◌∙◌}
 use mathlib.Core.List.{List}
 use Prim.Native.Nat.{ℕ, ◌<◌, ◌≤◌}
 use native.Mathlib.Omega.{arith}
@@ -30,7 +30,7 @@ passed {w} {k} {sought} {from} {top} b g e l n = record { below = omega (arith, 
     rest : (h : Held) → mark_word w k h ≡ sought → Beyond w k h from → Beyond w k h g
     rest h m c =
         let on : Chain w k h (record { 0 = top }) (record { 0 = g }) = rw e (b.rest h m c) in
-        chain_rest (λ q. n (rw q m)) on
+        chain_rest (λ q. n (ap (λ (x : Held). mark_word w k x) q ∙ m)) on
 
 -- no row is on a chain whose first row's mark is before its own: the chain leads to ever earlier rows
 pub too_early : (w : List ℕ) (k : Lane) (rows : Held) {top g h : Held} → Rising w k rows → Lower g rows → mark_word w k g < mark_word w k h → Chain w k h top g → ⊥
