@@ -13,7 +13,7 @@ use Rattle.layout.specs.declared.Held.{Held}
 use Rattle.layout.specs.declared.Place.{Place}
 use Rattle.layout.specs.declared.Lane.{Lane}
 use Rattle.layout.specs.declared.Role.TheVariants.{Younger, Older, Next}
-use Rattle.layout.specs.Words.{Lower, after, bottom, position, least_word, extent_of}
+use Rattle.layout.specs.Words.{Lower, row₀, after, bottom, position, least_word, extent_of}
 use Rattle.layout.specs.Frames.{SameLane, Other}
 use Rattle.layout.specs.Frames as Frames
 use Rattle.layout.proofs.Written.{lane_then, each_lane, each_kind}
@@ -45,7 +45,7 @@ pub record Steps (w v : List ℕ) (s t : Roles) (values : List ℤ) (l : ℕ) : 
   pub rest : (i : ℕ) → 512 + 64 * l ≤ i → get_or v i 0 ≡ get_or w i 0
 
 module _ {w : List ℕ} {values : List ℤ} {l : ℕ} (a : Laid (roles_of w) w values l) (short : length values ≤ 4294967295) (m : 32 ≤ length w)
-    (merging : 0 < (extent_of w Younger).rows.0) where
+    (merging : Lower row₀ (extent_of w Younger).rows) where
   abbrev s : Roles
   s = roles_of w
 
@@ -190,7 +190,7 @@ module _ {w : List ℕ} {values : List ℤ} {l : ℕ} (a : Laid (roles_of w) w v
               (record {
                 older_some = a.merging.older_some;
                 younger_some = omega arith;
-                in_order = λ z. all;
+                in_order = λ z. omega (arith, all);
                 older_covers = λ z. covers_same (each_kind so Frames.entry) (a.merging.older_covers z);
                 younger_covers = λ z. covers_same (each_kind (each_lane lanes k') Frames.entry)
                     (advance_covers (stacked_same (each_kind (carried'.others k' a.apart.yn) Frames.entry) a.younger.stacked) (room_same carried'.long (heights a.younger))
