@@ -1,5 +1,5 @@
 -- The contracts of the ranges' private functions.
-use Rattle.std.specs.Prelude.{◌≡◌, Bool, true, List, [], ◌∷◌, ◌++◌, ◌⊎◌, ℕ, Option, None, Some, ◌+◌, ◌*◌, ◌/◌, ◌%◌, ◌<◌, ◌≤◌, ltb, min, max, ℤ, length}
+use Rattle.std.specs.Prelude.{◌≡◌, Bool, true, false, List, [], ◌∷◌, ◌++◌, ◌⊎◌, ℕ, Option, None, Some, ◌+◌, ◌*◌, ◌/◌, ◌%◌, ◌<◌, ◌≤◌, ltb, min, max, ℤ, length}
 use Rattle.history.specs.declared.Position.{Position}
 use Rattle.history.specs.Minima.{present_at, minimum}
 use Rattle.layout.specs.declared.Held.{Held}
@@ -85,9 +85,10 @@ pub record ClosedNext (w v : List ℕ) (p : Position) : Type 0 where
   pub lost : found ≡ None → v ≡ w
   pub closed : (g : Held) → found ≡ Some g → Released w v (extent_of w Next).lane (extent_of w Next).rows g
 
--- `has_left`: a row of a role's lane is left to be carried
-abbrev pub has_left : List ℕ → Role → Bool
-has_left w role = ltb (left_of w role).0 (extent_of w role).rows.0
+-- `has_left`: whether a row of a role's lane is left to be carried
+pub record Remains (w : List ℕ) (role : Role) (r : Bool) : Type 0 where
+  pub some : r ≡ true → Lower (left_of w role) (extent_of w role).rows
+  pub none : r ≡ false → NotHigher (extent_of w role).rows (left_of w role)
 
 -- `step`: the next row of a lane is carried, with its minimum up to where the active lane starts; where none is left, or its run cannot be read, nothing is done
 pub record Step (w v : List ℕ) (role : Role) : Type 0 where

@@ -54,7 +54,7 @@ pub fn push(area: &mut [u64], e: Extent, word: u64) -> Place
     if !layout::has_room(area, e.height.0 + 1) {
         return e.height;
     }
-    if 0 < e.height.0 {
+    if Place(0) < e.height {
         if area[e.lane.least(Place(e.height.0 - 1))] == word {
             return e.height;
         }
