@@ -22,7 +22,7 @@ fn taken_over(area: &[u64], e: Extent, word: u64) -> Place
         LOOKS,
         |k: usize| -> bool
             requires { Room area.now (k + 1) }
-            ensures { result ≡ is_above area.entry.now lane word k }
+            ensures { result ≡ is_above area.entry.now lane word (record { 0 = k }) }
         { word < area[lane.least(Place(k))] },
     ))
 }
@@ -109,7 +109,7 @@ fn covering(area: &[u64], e: Extent, held: Held) -> Place
         LOOKS,
         |k: usize| -> bool
             requires { Room area.now (k + 2) }
-            ensures { result ≡ starts_after area.entry.now lane held (k + 1) }
+            ensures { result ≡ starts_after area.entry.now lane held (record { 0 = k + 1 }) }
         { held < Held(area[lane.first(Place(k + 1))] as usize) },
     ))
 }

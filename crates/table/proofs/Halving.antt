@@ -19,7 +19,7 @@ late mark sought e = grind (arith, nat_tests)
 early : (mark sought : ℕ) → false ≡ ltb sought mark → mark ≤ sought
 early mark sought e = grind (arith, nat_tests)
 
-pub missed : (w : List ℕ) (k : Lane) {sought rows n : ℕ} → (n < rows → true ≡ is_after w k sought n) → ((i : ℕ) → i + 1 ≡ n → false ≡ is_after w k sought i)
+pub missed : (w : List ℕ) (k : Lane) {sought rows n : ℕ} → (n < rows → true ≡ is_after w k sought (record { 0 = n })) → ((i : ℕ) → i + 1 ≡ n → false ≡ is_after w k sought (record { 0 = i }))
     → n ≤ rows → (word w k (n - 1) 1 ≡ sought → ⊥) → Ascending w (base_of k) rows → (h : ℕ) → h < rows → word w k h 1 ≡ sought → ⊥
 missed w k {sought} {rows} {n} here behind within other up h m e =
     let above : h < n = elim (dec_lt n rows) [

@@ -42,7 +42,7 @@ fn by_halves(area: &[u64], lane: Lane, rows: Held, p: Position) -> Option<Held>
         rows.0,
         |n: usize| -> bool
             requires { Room area.now (n + 1) }
-            ensures { result ≡ is_after area.entry.now lane sought n }
+            ensures { result ≡ is_after area.entry.now lane sought (record { 0 = n }) }
         { sought < area[lane.mark(Held(n))] },
     );
     let held = Held(behind.saturating_sub(1));
