@@ -2,7 +2,7 @@
 -- or not after, what does not come after a third comes before that, or not after it.
 use mathlib.Core.Path.{◌≡◌, ap}
 use mathlib.Core.Logic.{◌⊎◌}
-use Prim.Native.Nat.{ℕ, ◌<◌, ◌≤◌}
+use Prim.Native.Nat.{ℕ}
 use native.Mathlib.Omega.{arith}
 use Rattle.laws.proofs.Tests.{lt_or_ge, neither_below}
 use Rattle.history.specs.declared.Position.{Position}

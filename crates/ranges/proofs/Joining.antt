@@ -22,7 +22,7 @@ use Rattle.layout.specs.declared.Held.{Held}
 use Rattle.layout.specs.declared.Lane.{Lane}
 use Rattle.layout.specs.declared.Extent.{Extent}
 use Rattle.layout.specs.declared.Role.TheVariants.{Active}
-use Rattle.layout.specs.Words.{Lower, NotHigher, after, row₀, position, extent_of, Room, Put, puts, rows_puts}
+use Rattle.layout.specs.Words.{Earlier, NotLater, Lower, NotHigher, after, row₀, position, extent_of, Room, Put, puts, rows_puts}
 use Rattle.layout.specs.Frames.{SameLane, SameLanes, Other}
 use Rattle.layout.specs.Frames as Frames
 use Rattle.layout.proofs.Order.{lower_or_not}
@@ -31,7 +31,7 @@ use Rattle.layout.proofs.Puts.{puts_lanes}
 use Rattle.table.specs.Marks.{After, active_below}
 use Rattle.table.proofs.Kept.{active_same, position_same}
 use Rattle.packing.specs.Packing.{packed, unpacked, Faithful}
-use Rattle.ranges.specs.Holding.{Roles, roles_of, marks_in, Laid, Started, Unfinished, Soon, Holds}
+use Rattle.ranges.specs.Holding.{upcoming, Roles, roles_of, marks_in, Laid, Started, Unfinished, Soon, Holds}
 use Rattle.ranges.specs.Private.{Grows, Appended, size_for, turning, Turns, Turned, Shared}
 use Rattle.ranges.proofs.Lanes.{lane_same}
 use Rattle.ranges.proofs.Header.{roles_put, roles_same, with_active}
@@ -217,16 +217,16 @@ module _ (h : History) (first w : List ℕ) (active : ℕ) (p : Position) (y : S
     position_then : (g : Held) → position z t.active.lane g ≡ position x t.active.lane g
     position_then = position_same (each_kind (each_lane sames t.active.lane) Frames.row)
 
-    spans : (g : Held) → Lower g r.rows → (t.start.0 ≤ (position z r.lane g).0) × ((position z r.lane g).0 < length h.values + 1)
-    spans g b = subst (λ (k : Lane). (t.start.0 ≤ (position z k g).0) × ((position z k g).0 < length h.values + 1)) (sym q.same.0)
+    spans : (g : Held) → Lower g r.rows → NotLater t.start (position z r.lane g) × Earlier (position z r.lane g) (upcoming h.values)
+    spans g b = subst (λ (k : Lane). NotLater t.start (position z k g) × Earlier (position z k g) (upcoming h.values)) (sym q.same.0)
         (elim (ℕ_discrete g.0 t.active.rows.0) [
           | yes e ↦
               let g-is : ◌≡◌ {A = Held} g t.active.rows = λ j. record { 0 = e j } in
               let at : position z t.active.lane g ≡ p = position_then g ∙ ap (position x t.active.lane) g-is ∙ grows.new in
-              subst (λ (i : Position). (t.start.0 ≤ i.0) × (i.0 < length h.values + 1)) (sym at) (omega (arith, present, a.laid.ends), omega (arith, present))
+              subst (λ (i : Position). NotLater t.start i × Earlier i (upcoming h.values)) (sym at) (omega (arith, present, a.laid.ends), omega (arith, present))
           | no e ↦
               let c : Lower g t.active.rows = omega (arith, ap (λ (i : Held). i.0) rows_more) in
-              subst (λ (i : Position). (t.start.0 ≤ i.0) × (i.0 < length h.values + 1)) (sym (position_then g ∙ grows.old g c)) (a.laid.in_active g c)
+              subst (λ (i : Position). NotLater t.start i × Earlier i (upcoming h.values)) (sym (position_then g ∙ grows.old g c)) (a.laid.in_active g c)
         ])
 
     starts : Started (with_active t r) z

@@ -2,12 +2,10 @@
 use mathlib.Core.Path.{◌≡◌, refl, sym, ap, subst, ◌∙◌}
 use mathlib.Core.List.{List, ◌++◌}
 use mathlib.Core.Logic.{inl, inr}
-use native.Mathlib.Nat.{eq-zero-or-pos}
-use Prim.Native.Nat.{ℕ, ◌+◌, ◌<◌, ◌≤◌}
+use Prim.Native.Nat.{ℕ, ◌+◌, ◌≤◌}
 use native.Mathlib.Omega.{arith}
 use lib.IntN.{ℤ}
 use lib.ListN.{length}
-use Rattle.history.specs.declared.Position.{Position}
 use Rattle.history.specs.declared.Standing.TheVariants.{Unmarked}
 use Rattle.history.specs.Histories.{History, model}
 use Rattle.runs.specs.Runs.{AsLent}
@@ -90,7 +88,7 @@ module _ (h : History) (first w : List ℕ) (long : 32 ≤ length w) (short : le
   pub going_row : {v : List ℕ} {more : ℕ} → Going h first w (more + 1) → Merged w v → Going h first v more
   going_row {v} {more} a m = elim (lower_or_not s.older_left s.older.rows) [
     | inl l ↦
-        let none : s.younger_left.0 ≡ 0 = elim (eq-zero-or-pos s.younger_left.0) [ inl z ↦ z | inr z ↦ absurd (omega (arith, a.laid.merging.in_order z)) ] in
+        let none : s.younger_left.0 ≡ 0 = elim (lower_or_not row₀ s.younger_left) [ inl z ↦ absurd (omega (arith, a.laid.merging.in_order z)) | inr z ↦ omega arith ] in
         let d = (m.older l).done l (heights a.laid.older) (a.laid.merging.older_covers l).on in
         subst (λ (x : List ℕ). Going h first x more) (sym d.done)
         (going_on a (older_steps a.laid short long a.some l (d.low.older refl) d.carried d.onward) refl refl refl refl (λ z. omega (arith, none)) (omega arith))

@@ -8,7 +8,6 @@ use Rattle.std.proofs.Common.{◌++◌, replicate, take, drop}
 use Rattle.std.proofs.lemmas.List.{length-take-le}
 use Rattle.std.proofs.lemmas.Grind.{common_steps}
 use native.Mathlib.Decide.{dec_lt}
-use native.Mathlib.Nat.{eq-zero-or-pos}
 use Prim.Native.Nat.{ℕ, ◌<◌, ◌≤◌, min}
 use native.Mathlib.Omega.{arith}
 use lib.ListN.{length, get_or, set}
@@ -24,7 +23,7 @@ use Rattle.layout.specs.declared.Extent.{Extent}
 use Rattle.layout.specs.declared.Role.{Role}
 use Rattle.layout.specs.declared.Role.TheVariants.{Active, Younger, Older, Next}
 use Rattle.layout.specs.Words.{Earlier, NotLater, Under, bottom, least_word, extent_of, start_of, Room, puts}
-use Rattle.layout.proofs.Order.{earlier_or_not}
+use Rattle.layout.proofs.Order.{earlier_or_not, under_or_not}
 use Rattle.layout.proofs.Written.{wrote_header}
 use Rattle.layout.proofs.Puts.{puts_lanes}
 use Rattle.table.specs.Marks.{Live, released}
@@ -106,9 +105,9 @@ lower_entry {w} {x} {r} role a q =
     let e = extent_of w role in
     let same : r ≡ x → Entry w r = λ z. (a.0, a.1, a.2, z ∙ a.3) in
     ⊎_elim
-    (λ (b : Room w e.height.0). elim (eq-zero-or-pos e.height.0) [
-      | inl z ↦ same (q.none (λ c d. omega arith))
-      | inr z ↦
+    (λ (b : Room w e.height.0). elim (under_or_not bottom e.height) [
+      | inr z ↦ same (q.none (λ c d. omega arith))
+      | inl z ↦
           let y = least_word w e.lane bottom in
           elim (dec_lt y x) [
             | yes l ↦ (role, bottom, z, q.some b z ∙ (let m : min x y ≡ y = omega arith in m))
@@ -173,9 +172,9 @@ module _ (w : List ℕ) (p : Position) (role : Role) (e : Extent) (own : e ≡ e
       module _ (x r : ℕ) (shows : low ≡ Some x) (up : UpToNow w role x r) where
         entry : Entry w x
         entry = ⊎_elim
-            (λ (b : Room w ex.height.0). elim (eq-zero-or-pos ex.height.0) [
-              | inl z ↦ absurd (let f : None ≡ Some x = sym (looked.nothing (λ d f. omega arith)) ∙ shows in cc)
-              | inr z ↦
+            (λ (b : Room w ex.height.0). elim (under_or_not bottom ex.height) [
+              | inr z ↦ absurd (let f : None ≡ Some x = sym (looked.nothing (λ d f. omega arith)) ∙ shows in cc)
+              | inl z ↦
                   let t = looked.shown b z in
                   let same : Some x ≡ Some (least_word w ex.lane t.0) = sym shows ∙ t.2 in
                   let f : x ≡ least_word w ex.lane t.0 = cc in

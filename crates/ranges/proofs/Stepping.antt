@@ -2,8 +2,7 @@
 use mathlib.Core.Path.{◌≡◌, refl, sym, ap, ◌∙◌}
 use mathlib.Core.List.{List, [], ◌++◌, append-nil, append_assoc}
 use mathlib.Core.Logic.{inl, inr}
-use Prim.Native.Nat.{ℕ, ◌+◌, ◌*◌, ◌<◌, ◌≤◌, min}
-use native.Mathlib.Nat.{eq-zero-or-pos}
+use Prim.Native.Nat.{ℕ, ◌+◌, ◌*◌, ◌≤◌, min}
 use native.Mathlib.Omega.{arith}
 use lib.IntN.{ℤ}
 use lib.ListN.{length, get_or, take, length-append}
@@ -13,9 +12,10 @@ use Rattle.layout.specs.declared.Held.{Held}
 use Rattle.layout.specs.declared.Place.{Place}
 use Rattle.layout.specs.declared.Lane.{Lane}
 use Rattle.layout.specs.declared.Role.TheVariants.{Younger, Older, Next}
-use Rattle.layout.specs.Words.{Lower, row₀, after, bottom, position, least_word, extent_of}
+use Rattle.layout.specs.Words.{Earlier, Lower, row₀, after, bottom, position, least_word, extent_of}
 use Rattle.layout.specs.Frames.{SameLane, Other}
 use Rattle.layout.specs.Frames as Frames
+use Rattle.layout.proofs.Order.{lower_or_not}
 use Rattle.layout.proofs.Written.{lane_then, each_lane, each_kind}
 use Rattle.layout.specs.Words.{Put, puts, left_puts}
 use Rattle.layout.proofs.Puts.{puts_lanes}
@@ -74,12 +74,12 @@ module _ {w : List ℕ} {values : List ℤ} {l : ℕ} (a : Laid (roles_of w) w v
     ps = left_puts Older (after h) run
 
     none_younger : s.younger_left.0 ≡ 0
-    none_younger = elim (eq-zero-or-pos s.younger_left.0) [ inl z ↦ z | inr z ↦ absurd (omega (arith, a.merging.in_order z)) ]
+    none_younger = elim (lower_or_not row₀ s.younger_left) [ inl z ↦ absurd (omega (arith, a.merging.in_order z)) | inr z ↦ omega arith ]
 
     row : RowHolds w k s.older.height (take s.middle.0 values) h p
     row = a.older.row h left
 
-    sooner : p.0 < s.middle.0
+    sooner : Earlier p s.middle
     sooner = (a.in_older h left).1
 
     word_is : x ≡ packed (minimum (until a) p)

@@ -1,7 +1,7 @@
 -- A turn, when the active lane is full, and the end of a merge. Both only give the lanes other roles.
 use mathlib.Core.Path.{◌≡◌, refl, sym, ap, subst, ◌∙◌}
 use mathlib.Core.List.{List, ◌++◌, append_assoc}
-use Prim.Native.Nat.{ℕ, ◌+◌, ◌*◌, ◌<◌, ◌≤◌}
+use Prim.Native.Nat.{ℕ, ◌+◌, ◌*◌, ◌≤◌}
 use native.Mathlib.Omega.{arith}
 use lib.IntN.{ℤ}
 use lib.ListN.{length, take}
@@ -116,7 +116,7 @@ turned s p capacity room = record {
 module _ {s : Roles} {w v : List ℕ} {values : List ℤ} {l m c : ℕ} (p : Position) (capacity room : Held) (a : Laid s w values l) (same : SameLanes w v) (full : s.active.rows.0 ≡ s.active.capacity.0)
     (free : NotHigher s.younger.rows row₀) (started : Started s w) (here : p.0 ≡ length values) (fresh : After w s.active.lane s.active.rows p)
     (count : length (marks_in w s.older) + length (marks_in w s.active) ≡ c) (more : c + 1 ≤ m) (peak : l ≤ m) (is : room.0 ≡ 2 * c + 17)
-    (enough : s.older.rows.0 + s.active.rows.0 ≤ 2 * capacity.0) (some : 0 < capacity.0) (below : capacity.0 ≤ 15 + 2 * m) (r₁ : Room v capacity.0) (r₂ : Room v room.0) where
+    (enough : s.older.rows.0 + s.active.rows.0 ≤ 2 * capacity.0) (some : Lower row₀ capacity) (below : capacity.0 ≤ 15 + 2 * m) (r₁ : Room v capacity.0) (r₂ : Room v room.0) where
   lane' : (k : Lane) → SameLane k w v
   lane' = each_lane same
 

@@ -1,6 +1,6 @@
 -- What it is for the lent words to hold a history. Source document 000, Lemma 7, has at most four structures: the active one, which alone gets marks and values; two that stand still; and
 -- the one that these are merged into. Here each is a lane.
-use Rattle.std.specs.Prelude.{◌≡◌, List, ◌++◌, ℕ, ◌+◌, ◌*◌, ◌<◌, ◌≤◌, ℤ, length, take}
+use Rattle.std.specs.Prelude.{◌≡◌, List, ◌++◌, ℕ, ◌+◌, ◌*◌, ◌≤◌, ℤ, length, take}
 use Rattle.history.specs.declared.Position.{Position}
 use Rattle.history.specs.declared.Standing.TheVariants.{Unmarked}
 use Rattle.history.specs.Minima.{next, present_at, minimum}

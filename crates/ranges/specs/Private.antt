@@ -1,5 +1,5 @@
 -- The contracts of the ranges' private functions.
-use Rattle.std.specs.Prelude.{◌≡◌, Bool, true, false, List, [], ◌∷◌, ◌++◌, ◌⊎◌, ℕ, Option, None, Some, ◌+◌, ◌*◌, ◌/◌, ◌%◌, ◌<◌, ◌≤◌, ltb, min, max, ℤ, length}
+use Rattle.std.specs.Prelude.{◌≡◌, Bool, true, false, List, [], ◌∷◌, ◌++◌, ◌⊎◌, ℕ, Option, None, Some, ◌+◌, ◌*◌, ◌/◌, ◌%◌, ◌<◌, ◌≤◌, min, max, ℤ}
 use Rattle.history.specs.declared.Position.{Position}
 use Rattle.history.specs.Minima.{present_at, minimum}
 use Rattle.layout.specs.declared.Held.{Held}

@@ -1,7 +1,7 @@
 -- What a look at the place whose run has a row says of the row's word: the stack has only one, and it is that place's entry.
 use mathlib.Core.Path.{refl, ap}
 use mathlib.Core.List.{List}
-use Rattle.std.specs.Prelude.{Option, Some}
+use Rattle.std.specs.Prelude.{Some}
 use Prim.Native.Nat.{ℕ}
 use Rattle.layout.specs.declared.Held.{Held}
 use Rattle.layout.specs.declared.Place.{Place}

@@ -45,15 +45,15 @@ module _ {w v : List ℕ} {k : Lane} {top : Place} {x f : ℕ} (g : Grown w v k 
     bottom = λ l. ap (λ (i : ℕ). record { 0 = i }) (at_bottom (omega arith));
     below = λ t l.
         ⊎_elim (λ (e : t.0 ≡ top.0). omega (arith, first-top t e, on.inside))
-        (λ (m : t.0 < top.0). omega (arith, g.starts t m, s.below t (omega arith)))
+        (λ (m : Under t top). omega (arith, g.starts t m, s.below t (omega arith)))
         (eq-or-lt_of_le (omega arith));
     rising = λ t l.
-        let m : t.0 < top.0 = omega arith in
+        let m : Under t top = omega arith in
         ⊎_elim (λ (e : t.0 + 1 ≡ top.0). omega (arith, g.starts t m, first-top (above t) e, on.after t e))
         (λ (b : t.0 + 1 < top.0). omega (arith, g.starts t m, g.starts (above t) b, s.rising t (omega arith)))
         (eq-or-lt_of_le (omega arith));
     ascending = λ t l.
-        let m : t.0 < top.0 = omega arith in
+        let m : Under t top = omega arith in
         ⊎_elim (λ (e : t.0 + 1 ≡ top.0). omega (arith, g.words t m, least_top (above t) e, on.ascending t e))
         (λ (b : t.0 + 1 < top.0). omega (arith, g.words t m, g.words (above t) b, s.ascending t (omega arith)))
         (eq-or-lt_of_le (omega arith));
@@ -62,7 +62,7 @@ module _ {w v : List ℕ} {k : Lane} {top : Place} {x f : ℕ} (g : Grown w v k 
       at_bottom : 0 ≤ top.0 → (first v k bottom).0 ≡ 0
       at_bottom z =
           ⊎_elim (λ (e : 0 ≡ top.0). first-top bottom e ∙ on.bottom (sym e))
-          (λ (l : 0 < top.0). g.starts bottom l ∙ ap (λ (h : Held). h.0) (s.bottom (omega arith)))
+          (λ (l : Under bottom top). g.starts bottom l ∙ ap (λ (h : Held). h.0) (s.bottom (omega arith)))
           (eq-or-lt_of_le z)
 
   -- the top's run has every row from its first on

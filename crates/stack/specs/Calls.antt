@@ -1,5 +1,5 @@
 -- What each function of the stack promises, of any words, any height and any place.
-use Rattle.std.specs.Prelude.{◌≡◌, List, ℕ, Option, None, Some, ◌+◌, ◌<◌, ◌≤◌}
+use Rattle.std.specs.Prelude.{◌≡◌, List, ℕ, Option, None, Some, ◌+◌}
 use Rattle.layout.specs.declared.Held.{Held}
 use Rattle.layout.specs.declared.Place.{Place}
 use Rattle.layout.specs.declared.Lane.{Lane}

@@ -1,5 +1,5 @@
 -- The contracts of the stack's private functions.
-use Rattle.std.specs.Prelude.{Bool, List, ℕ, ltb, ◌<◌, ◌≤◌}
+use Rattle.std.specs.Prelude.{Bool, List, ℕ, ltb}
 use Rattle.layout.specs.declared.Held.{Held}
 use Rattle.layout.specs.declared.Place.{Place}
 use Rattle.layout.specs.declared.Lane.{Lane}
