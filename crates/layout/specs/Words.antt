@@ -34,7 +34,7 @@ after h = record { 0 = h.0 + 1 }
 abbrev pub above : Place → Place
 above t = record { 0 = t.0 + 1 }
 
--- the first row, and the bottom of a stack
+-- the first row, and the bottom of a stack: there are rows where the first one is lower than the number of rows, and entries where the bottom is under the height
 abbrev pub row₀ : Held
 row₀ = record { 0 = 0 }
 
