@@ -47,7 +47,7 @@ module _ {w : List ℕ} {slots : ℕ} {values : List ℤ} {i oldest place : Posi
   whole = record { slot = q.within; holds = q.holds; twice = q.twice }
 
   -- the front entry is no earlier than i
-  first : 0 < count w → i.0 ≤ place_in (entry_word w (front w) 0)
+  first : 0 < count w → i.0 ≤ (place_in (entry_word w (front w) 0)).0
   first z = from q.holds 0 z q.holds.some
 
   -- where there is none, the oldest position is what it was: no value stands between
@@ -67,7 +67,7 @@ module _ {w : List ℕ} {slots : ℕ} {values : List ℤ} {i oldest place : Posi
       ⊎_elim (λ (x : oldest.0 ≡ 1). absurd (omega (arith, q.holds.some))) (λ (x : oldest.0 + slots ≡ place.0 + 1). x) c.tight
 
   -- THE FRONT ENTRY STAYS, where fewer positions than there are slots have come since
-  stayed : place.0 < place_in (entry_word w (front w) 0) + slots → Stayed w slots values oldest (front w) (count w)
+  stayed : place.0 < (place_in (entry_word w (front w) 0)).0 + slots → Stayed w slots values oldest (front w) (count w)
   stayed b = elim (eq-zero-or-pos (count w)) [
     | inl z ↦ rw (none_moves z) whole
     | inr z ↦
@@ -80,7 +80,7 @@ module _ {w : List ℕ} {slots : ℕ} {values : List ℤ} {i oldest place : Posi
   ]
 
   -- IT LEAVES, where as many have come: it stood at i, and the oldest position is the next one
-  module _ (b : place_in (entry_word w (front w) 0) + slots ≤ place.0) (z : 0 < count w) where
+  module _ (b : (place_in (entry_word w (front w) 0)).0 + slots ≤ place.0) (z : 0 < count w) where
     leaves_next : (oldest ≡ next i) × ((entry_at w (front w) 0).place.0 ≡ i.0)
     leaves_next =
         ⊎_elim

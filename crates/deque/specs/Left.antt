@@ -10,7 +10,7 @@ use Rattle.deque.specs.Calls.{SlotAfter, Comes}
 
 -- whether the front entry has to leave: as many positions as there are slots have come since its own
 abbrev pub gone : List ℕ → (slots front : ℕ) → Position → Bool
-gone w slots front place = leb (place_in (entry_word w front 0) + slots) place.0
+gone w slots front place = leb ((place_in (entry_word w front 0)).0 + slots) place.0
 
 -- `without_gone`: all stay, or the front entry is gone, and the next one is the front, in the slot behind it; nothing is left where it is the only one
 pub record Rest (w : List ℕ) (slots front count : ℕ) (place : Position) (r : Option Ring) : Type 0 where

@@ -8,15 +8,24 @@ use Rattle.layout.specs.declared.Role.{Role}
 use Rattle.layout.specs.declared.Role.TheVariants.{Active, Younger, Older, Next}
 use Rattle.layout.specs.declared.Extent.{Extent}
 
--- THE KINDS AND THEIR ORDER: a position, a row or a place comes before another
+-- THE KINDS AND THEIR ORDER: a position, a row or a place comes before another, or does not come after it
 abbrev pub Earlier : Position → Position → Type 0
 Earlier p q = p.0 < q.0
+
+abbrev pub NotLater : Position → Position → Type 0
+NotLater p q = p.0 ≤ q.0
 
 abbrev pub Lower : Held → Held → Type 0
 Lower g h = g.0 < h.0
 
+abbrev pub NotHigher : Held → Held → Type 0
+NotHigher g h = g.0 ≤ h.0
+
 abbrev pub Under : Place → Place → Type 0
 Under t u = t.0 < u.0
+
+abbrev pub NotAbove : Place → Place → Type 0
+NotAbove t u = t.0 ≤ u.0
 
 -- the row after a row, and the place above a place
 abbrev pub after : Held → Held
@@ -25,7 +34,7 @@ after h = record { 0 = h.0 + 1 }
 abbrev pub above : Place → Place
 above t = record { 0 = t.0 + 1 }
 
--- the first row, and the bottom of a stack
+-- the first row, and the bottom of a stack: there are rows where the first one is lower than the number of rows, and entries where the bottom is under the height
 abbrev pub row₀ : Held
 row₀ = record { 0 = 0 }
 

@@ -2,9 +2,9 @@
 use mathlib.Core.Path.{◌≡◌, refl, sym, ap, subst, ◌∙◌}
 use mathlib.Core.Bool.{Bool, true, false, ◌||◌, or-false}
 use mathlib.Core.List.{List, ◌++◌}
+use mathlib.Core.Logic.{inl, inr}
 use Rattle.std.specs.Prelude.{Option, None, Some}
-use native.Mathlib.Decide.{ℕ_discrete, dec_lt}
-use Prim.Native.Nat.{ℕ, ◌<◌, ◌≤◌, min}
+use Prim.Native.Nat.{ℕ, min}
 use native.Mathlib.Omega.{arith}
 use lib.IntN.{ℤ}
 use lib.ListN.{take}
@@ -15,7 +15,8 @@ use Rattle.layout.specs.declared.Held.{Held}
 use Rattle.layout.specs.declared.Extent.{Extent}
 use Rattle.layout.specs.declared.Role.{Role}
 use Rattle.layout.specs.declared.Role.TheVariants.{Active, Younger, Older, Next}
-use Rattle.layout.specs.Words.{bottom, position, least_word, extent_of, start_of}
+use Rattle.layout.specs.Words.{Earlier, NotLater, row₀, bottom, position, least_word, extent_of, start_of}
+use Rattle.layout.proofs.Order.{earlier_or_not, not_later_through, lower_or_not}
 use Rattle.table.specs.Marks.{Live}
 use Rattle.table.specs.Calls.{Sought}
 use Rattle.table.proofs.Active.{live_among, live_position, not_among}
@@ -29,17 +30,17 @@ use Rattle.ranges.proofs.Striking.{out_of_span}
 
 -- the role that is chosen, and where the position is then
 pub data Where (w : List ℕ) (p : Position) : Role → Type 0 where
-  in_active_lem : (start_of w Active).0 ≤ p.0 → Where w p Active
-  in_younger_lem : p.0 < (start_of w Active).0 → (start_of w Younger).0 ≤ p.0 → Where w p Younger
-  in_older_lem : p.0 < (start_of w Active).0 → p.0 < (start_of w Younger).0 → Where w p Older
+  in_active_lem : NotLater (start_of w Active) p → Where w p Active
+  in_younger_lem : Earlier p (start_of w Active) → NotLater (start_of w Younger) p → Where w p Younger
+  in_older_lem : Earlier p (start_of w Active) → Earlier p (start_of w Younger) → Where w p Older
 
 pub where_is : {w : List ℕ} {p : Position} {role : Role} → Chosen w p role → Where w p role
-where_is {w} {p} c = elim (dec_lt p.0 (start_of w Active).0) [
-  | yes a ↦ elim (dec_lt p.0 (start_of w Younger).0) [
-    | yes b ↦ subst (Where w p) (sym (c.older a b)) (in_older_lem a b)
-    | no b ↦ subst (Where w p) (sym (c.younger a (omega (arith, b)))) (in_younger_lem a (omega (arith, b)))
+where_is {w} {p} c = elim (earlier_or_not p (start_of w Active)) [
+  | inl a ↦ elim (earlier_or_not p (start_of w Younger)) [
+    | inl b ↦ subst (Where w p) (sym (c.older a b)) (in_older_lem a b)
+    | inr b ↦ subst (Where w p) (sym (c.younger a b)) (in_younger_lem a b)
   ]
-  | no a ↦ subst (Where w p) (sym (c.active (omega (arith, a)))) (in_active_lem (omega (arith, a)))
+  | inr a ↦ subst (Where w p) (sym (c.active a)) (in_active_lem a)
 ]
 
 module _ (h : History) (first w : List ℕ) (p : Position) (k : Holds h first w) where
@@ -52,17 +53,17 @@ module _ (h : History) (first w : List ℕ) (p : Position) (k : Holds h first w)
       ap (among p) (sym k.marks) ∙ among-append p (marks_in w s.older) (marks_in w s.younger ++ marks_in w s.active)
       ∙ ap (λ (b : Bool). among p (marks_in w s.older) || b) (among-append p (marks_in w s.younger) (marks_in w s.active))
 
-  pub not_older : s.middle.0 ≤ p.0 → among p (marks_in w s.older) ≡ false
+  pub not_older : NotLater s.middle p → among p (marks_in w s.older) ≡ false
   not_older l = out_of_span w s.older p origin s.middle k.laid.in_older (λ a b. omega arith)
 
-  pub not_younger : (s.middle.0 ≤ p.0 → p.0 < s.start.0 → ⊥) → among p (marks_in w s.younger) ≡ false
+  pub not_younger : (NotLater s.middle p → Earlier p s.start → ⊥) → among p (marks_in w s.younger) ≡ false
   not_younger n = out_of_span w s.younger p s.middle s.start k.laid.in_younger n
 
-  pub not_active : p.0 < s.start.0 → among p (marks_in w s.active) ≡ false
+  pub not_active : Earlier p s.start → among p (marks_in w s.active) ≡ false
   not_active l = out_of_span w s.active p s.start (upcoming h.values) k.laid.in_active (λ a b. omega arith)
 
   pub among_lane : (role : Role) → Where w p role → among p h.active ≡ among p (marks_in w (extent_of w role))
-  among_lane Active (in_active_lem l) = parts ∙ (λ i. not_older (omega (arith, k.laid.order)) i || (not_younger (λ a b. omega arith) i || among p (marks_in w s.active)))
+  among_lane Active (in_active_lem l) = parts ∙ (λ i. not_older (not_later_through k.laid.order l) i || (not_younger (λ a b. omega arith) i || among p (marks_in w s.active)))
   among_lane Younger (in_younger_lem l b) =
       parts ∙ (λ i. not_older b i || (among p (marks_in w s.younger) || not_active l i)) ∙ or-false (among p (marks_in w s.younger))
   among_lane Older (in_older_lem l b) =
@@ -104,14 +105,14 @@ module _ (h : History) (first w : List ℕ) (p : Position) (k : Holds h first w)
           q.right e.rows (rooms (lane_of role)) (lane_of role).stacked l.row (packed (minimum (end_of role) (position w e.lane g))) ((lane_of role).row g l.row).rests
           ∙ ap (λ (i : Position). Some (packed (minimum (end_of role) i))) here
 
-      pub row_after : 0 < p.0
-      row_after = subst (λ (i : Position). 0 < i.0) here ((lane_of role).row g l.row).after
+      pub row_after : Earlier origin p
+      row_after = subst (Earlier origin) here ((lane_of role).row g l.row).after
 
       pub row_faithful : Faithful (minimum (end_of role) p)
       row_faithful = subst (λ (i : Position). Faithful (minimum (end_of role) i)) here ((lane_of role).row g l.row).faithful
 
   -- a mark's word up to now
-  still : {x r : ℕ} → 0 < p.0 → p.0 < s.start.0 → Faithful (minimum (take s.start.0 h.values) p) → x ≡ packed (minimum (take s.start.0 h.values) p) → LowerOf w Active x r
+  still : {x r : ℕ} → Earlier origin p → Earlier p s.start → Faithful (minimum (take s.start.0 h.values) p) → x ≡ packed (minimum (take s.start.0 h.values) p) → LowerOf w Active x r
       → unpacked r ≡ minimum h.values p
   still {x} {r} z l f e q =
       let some = (k.started (omega arith)).0 in
@@ -129,13 +130,12 @@ module _ (h : History) (first w : List ℕ) (p : Position) (k : Holds h first w)
       let t = q.older refl in
       let z = row_after Older (in_older_lem a b) g l in
       let f = row_faithful Older (in_older_lem a b) g l in
-      elim (ℕ_discrete s.younger.rows.0 0) [
-        | yes i ↦
+      elim (lower_or_not row₀ s.younger.rows) [
+        | inr i ↦
             let w₁ = older_whole k.laid i in
             still z a (subst (λ (vs : List ℤ). Faithful (minimum vs p)) w₁ f)
             (t.1.none (λ r₁ b₁. omega (arith, k.laid.younger.stacked.low)) ∙ e ∙ ap (λ (vs : List ℤ). packed (minimum vs p)) w₁) t.2
-        | no i ↦
-            let some : 0 < s.younger.rows.0 = omega (arith, i) in
+        | inl some ↦
             still z a (older_faithful k.laid p z b f some)
             (t.1.some (heights k.laid.younger) (k.laid.younger.stacked.some some)
             ∙ ap (λ (y : ℕ). min y (least_word w s.younger.lane bottom)) e ∙ older_word k.laid p z b f some) t.2

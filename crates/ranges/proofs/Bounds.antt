@@ -13,8 +13,9 @@ use Rattle.layout.specs.declared.Lane.{Lane}
 use Rattle.layout.specs.declared.Extent.{Extent}
 use Rattle.layout.specs.declared.Role.{Role}
 use Rattle.layout.specs.declared.Role.TheVariants.{Active, Younger, Older, Next}
-use Rattle.layout.specs.Words.{after, mark_word, extent_of, left_of, run_of, Room, rows_puts, left_puts}
+use Rattle.layout.specs.Words.{after, row₀, mark_word, extent_of, left_of, run_of, Room, rows_puts, left_puts}
 use Rattle.layout.specs.Frames.{Kind, SameLanes, Within}
+use Rattle.layout.proofs.Order.{lower_or_not, under_or_not}
 use Rattle.layout.proofs.Puts.{rows_in_header, left_in_header, puts_lanes}
 use Rattle.table.specs.Calls.{Released}
 use Rattle.table.proofs.Closing.{release_within}
@@ -45,9 +46,9 @@ appended_inside {w} {e = e} a = ⊎_elim
 
 pub released_inside : {w v : List ℕ} (k : Lane) (rows g : Held) → Released w v k rows g → Inside w v
 released_inside {w} k rows g a = ⊎_elim
-    (λ (r : Room w rows.0). elim (dec_lt g.0 rows.0) [
-      | yes l ↦ subst (Inside w) (sym (a.done r l)) (within_inside (release_within w k rows g l) r.few)
-      | no l ↦ nothing_done (a.idle (λ b c. l c))
+    (λ (r : Room w rows.0). elim (lower_or_not g rows) [
+      | inl l ↦ subst (Inside w) (sym (a.done r l)) (within_inside (release_within w k rows g l) r.few)
+      | inr l ↦ nothing_done (a.idle (λ b c. omega arith))
     ])
     (λ (n : Room w rows.0 → ⊥). nothing_done (a.idle (λ b c. n b)))
     (room_or_not w rows.0)
@@ -64,12 +65,12 @@ joined_inside {w} {role = role} a = subst (Inside w) (sym a.done) (done_then (ap
 
 carried_inside : {w v : List ℕ} {e : Extent} {h : Held} {x : ℕ} → Carried w v e h x → Inside w v
 carried_inside {w} {v} {e} {h} a = ⊎_elim
-    (λ (r : Room w e.rows.0). elim (dec_lt h.0 e.rows.0) [
-      | yes l ↦ elim (ℕ_discrete (mark_word w e.lane h % 2) 0) [
+    (λ (r : Room w e.rows.0). elim (lower_or_not h e.rows) [
+      | inl l ↦ elim (ℕ_discrete (mark_word w e.lane h % 2) 0) [
         | yes c ↦ nothing_done (a.closed c)
         | no c ↦ joined_inside (a.active r l c)
       ]
-      | no l ↦ nothing_done (a.idle (λ r₁ b. l b))
+      | inr l ↦ nothing_done (a.idle (λ r₁ b. omega arith))
     ])
     (λ (n : Room w e.rows.0 → ⊥). nothing_done (a.idle (λ r b. n r)))
     (room_or_not w e.rows.0)
@@ -80,29 +81,29 @@ step_inside {w} role d =
     subst (Inside w) (sym d.done) (done_then (carried_inside d.carried) (header_inside (puts_lanes (left_puts role h d.run) d.words (left_in_header role h d.run))))
 
 stepped_inside : {w v : List ℕ} (role : Role) → Stepped w v role → Inside w v
-stepped_inside {w} role a = elim (dec_lt (left_of w role).0 (extent_of w role).rows.0) [
-  | yes l ↦ ⊎_elim
-      (λ (r : Room w (extent_of w role).height.0). elim (dec_lt (run_of w role).0 (extent_of w role).height.0) [
-        | yes t ↦ step_inside role (a.done l r t)
-        | no t ↦ nothing_done (a.idle (λ b c d. t d))
+stepped_inside {w} role a = elim (lower_or_not (left_of w role) (extent_of w role).rows) [
+  | inl l ↦ ⊎_elim
+      (λ (r : Room w (extent_of w role).height.0). elim (under_or_not (run_of w role) (extent_of w role).height) [
+        | inl t ↦ step_inside role (a.done l r t)
+        | inr t ↦ nothing_done (a.idle (λ b c d. omega arith))
       ])
       (λ (n : Room w (extent_of w role).height.0 → ⊥). nothing_done (a.idle (λ b c d. n c)))
       (room_or_not w (extent_of w role).height.0)
-  | no l ↦ nothing_done (a.idle (λ b c d. l b))
+  | inr l ↦ nothing_done (a.idle (λ b c d. omega arith))
 ]
 
 pub merged_inside : {w v : List ℕ} → Merged w v → Inside w v
-merged_inside {w} a = elim (dec_lt (left_of w Older).0 (extent_of w Older).rows.0) [
-  | yes l ↦ stepped_inside Older (a.older l)
-  | no l ↦ stepped_inside Younger (a.younger (omega (arith, l)))
+merged_inside {w} a = elim (lower_or_not (left_of w Older) (extent_of w Older).rows) [
+  | inl l ↦ stepped_inside Older (a.older l)
+  | inr l ↦ stepped_inside Younger (a.younger l)
 ]
 
 pub finished_inside : {w v : List ℕ} → Finished w v → Inside w v
-finished_inside {w} a = elim (dec_lt (left_of w Older).0 (extent_of w Older).rows.0) [
-  | yes l ↦ nothing_done (a.waits (inl l))
-  | no l ↦ elim (dec_lt (left_of w Younger).0 (extent_of w Younger).rows.0) [
-    | yes b ↦ nothing_done (a.waits (inr b))
-    | no b ↦ subst (Inside w) (sym (a.done (omega (arith, l)) (omega (arith, b)))) (header_inside (puts_lanes (finishing w) w refl))
+finished_inside {w} a = elim (lower_or_not (left_of w Older) (extent_of w Older).rows) [
+  | inl l ↦ nothing_done (a.waits (inl l))
+  | inr l ↦ elim (lower_or_not (left_of w Younger) (extent_of w Younger).rows) [
+    | inl b ↦ nothing_done (a.waits (inr b))
+    | inr b ↦ subst (Inside w) (sym (a.done l b)) (header_inside (puts_lanes (finishing w) w refl))
   ]
 ]
 
@@ -115,15 +116,15 @@ turned_inside {w} {v} {active} {p} a = ⊎_elim
     turns_or_not : Turns w active ⊎ (Turns w active → ⊥)
     turns_or_not = elim (dec_lt active 4096) [
       | no f ↦ inr (λ t. f t.few)
-      | yes f ↦ elim (dec_lt (extent_of w Active).rows.0 (extent_of w Active).capacity.0) [
-        | yes c ↦ inr (λ t. omega (arith, t.full))
-        | no c ↦ elim (ℕ_discrete (extent_of w Younger).rows.0 0) [
-          | no y ↦ inr (λ t. y t.free)
-          | yes y ↦ elim (dec_lt 8207 (extent_of w Older).rows.0) [
+      | yes f ↦ elim (lower_or_not (extent_of w Active).rows (extent_of w Active).capacity) [
+        | inl c ↦ inr (λ t. omega (arith, t.full))
+        | inr c ↦ elim (lower_or_not row₀ (extent_of w Younger).rows) [
+          | inl y ↦ inr (λ t. omega (arith, t.free))
+          | inr y ↦ elim (dec_lt 8207 (extent_of w Older).rows.0) [
             | yes o ↦ inr (λ t. omega (arith, t.older))
             | no o ↦ elim (dec_lt 8207 (extent_of w Active).rows.0) [
               | yes r ↦ inr (λ t. omega (arith, t.rows))
-              | no r ↦ inl (record { few = f; full = omega (arith, c); free = y; older = omega (arith, o); rows = omega (arith, r) })
+              | no r ↦ inl (record { few = f; full = c; free = y; older = omega (arith, o); rows = omega (arith, r) })
             ]
           ]
         ]
@@ -131,7 +132,7 @@ turned_inside {w} {v} {active} {p} a = ⊎_elim
     ]
 
 pub shared_inside : {w v : List ℕ} → Shared w v → Inside w v
-shared_inside {w} a = elim (ℕ_discrete (extent_of w Younger).rows.0 0) [
-  | yes e ↦ nothing_done (a.idle e)
-  | no e ↦ let d = a.done e in done_then (merged_inside d.first) (done_then (merged_inside d.second) (finished_inside d.last))
+shared_inside {w} a = elim (lower_or_not row₀ (extent_of w Younger).rows) [
+  | inr e ↦ nothing_done (a.idle e)
+  | inl e ↦ let d = a.done e in done_then (merged_inside d.first) (done_then (merged_inside d.second) (finished_inside d.last))
 ]

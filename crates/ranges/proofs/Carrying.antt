@@ -2,18 +2,18 @@
 use mathlib.Core.Path.{◌≡◌, refl, sym, ap, subst, ◌∙◌}
 use mathlib.Core.List.{List, [], ◌∷◌, ◌++◌, append-nil}
 use native.Mathlib.Decide.{ℕ_discrete}
-use Prim.Native.Nat.{ℕ, ◌+◌, ◌*◌, ◌/◌, ◌%◌, ◌<◌, ◌≤◌}
+use Prim.Native.Nat.{ℕ, ◌+◌, ◌*◌, ◌/◌, ◌%◌, ◌≤◌}
 use native.Mathlib.Omega.{arith}
 use lib.IntN.{ℤ}
 use lib.ListN.{length, get_or}
 use borrow.Author.Tests.{eq-eqb, ne_eqb}
 use Rattle.history.specs.declared.Position.{Position}
-use Rattle.history.specs.Minima.{minimum}
+use Rattle.history.specs.Minima.{present_at, minimum}
 use Rattle.layout.specs.declared.Held.{Held}
 use Rattle.layout.specs.declared.Lane.{Lane}
 use Rattle.layout.specs.declared.Extent.{Extent}
 use Rattle.layout.specs.declared.Role.TheVariants.{Next}
-use Rattle.layout.specs.Words.{Earlier, Lower, after, mark_word, position, extent_of, Room}
+use Rattle.layout.specs.Words.{Earlier, NotLater, Lower, after, mark_word, position, extent_of, Room}
 use Rattle.layout.specs.Frames.{SameLane, Other}
 use Rattle.layout.specs.Frames as Frames
 use Rattle.layout.proofs.Written.{lane_then, lane_stays, each_lane, each_kind}
@@ -23,7 +23,7 @@ use Rattle.table.specs.Marks.{After}
 use Rattle.table.proofs.Active.{own}
 use Rattle.table.proofs.Kept.{active_same, position_same}
 use Rattle.packing.specs.Packing.{packed, Faithful}
-use Rattle.ranges.specs.Holding.{LaneHolds, Roles, roles_of, marks_in}
+use Rattle.ranges.specs.Holding.{origin, LaneHolds, Roles, roles_of, marks_in}
 use Rattle.ranges.specs.Private.{Carried, Grows}
 use Rattle.ranges.proofs.Lanes.{lane_same}
 use Rattle.ranges.proofs.Header.{with_next, roles_put, roles_same}
@@ -82,7 +82,7 @@ module _ {w v : List ℕ} {e : Extent} {h : Held} {x : ℕ} {values : List ℤ} 
     beyond = λ i b. refl;
   })
 
-  module _ (small : p.0 ≤ 4294967295) (after-all : After w next.lane next.rows p) (z : 0 < p.0) (b : p.0 ≤ length values) (is : x ≡ packed (minimum values p)) (f : Faithful (minimum values p))
+  module _ (small : p.0 ≤ 4294967295) (after-all : After w next.lane next.rows p) (z : Earlier origin p) (b : NotLater p (present_at values)) (is : x ≡ packed (minimum values p)) (f : Faithful (minimum values p))
       (spare : (mark_word w e.lane h % 2 ≡ 0 → ⊥) → Lower next.rows next.capacity) where
     -- an active one
     moves : (mark_word w e.lane h % 2 ≡ 0 → ⊥) → Carries w v values p (p ∷ [])
@@ -94,8 +94,8 @@ module _ {w v : List ℕ} {e : Extent} {h : Held} {x : ℕ} {values : List ℤ} 
         let i = a.within in
         let here : record { 0 = mark_word w e.lane h / 2 % 4294967296 } ≡ p = (let q : mark_word w e.lane h / 2 % 4294967296 ≡ p.0 = omega arith in λ j. record { 0 = q j }) in
         let g : Grows w u next r values p = subst (Grows w u next r values) here
-        (a.grows values n (spare d) (subst (After w next.lane next.rows) (sym here) after-all) (subst (λ (y : Position). 0 < y.0) (sym here) z)
-        (subst (λ (y : Position). y.0 ≤ length values) (sym here) b) (is ∙ ap (λ (y : Position). packed (minimum values y)) (sym here))
+        (a.grows values n (spare d) (subst (After w next.lane next.rows) (sym here) after-all) (subst (Earlier origin) (sym here) z)
+        (subst (λ (y : Position). NotLater y (present_at values)) (sym here) b) (is ∙ ap (λ (y : Position). packed (minimum values y)) (sym here))
         (subst (λ (y : Position). Faithful (minimum values y)) (sym here) f)) in
         let ps : List Put = rows_puts Next r.rows r.height in
         let m : 32 ≤ length u = omega (arith, i.long) in

@@ -2,8 +2,7 @@
 use mathlib.Core.Path.{◌≡◌, refl, sym, ap, subst, ◌∙◌}
 use mathlib.Core.List.{List, [], ◌∷◌, ◌++◌, append-nil, append_assoc}
 use mathlib.Core.Logic.{◌⊎◌, inl, inr, ⊎_elim}
-use native.Mathlib.Decide.{ℕ_discrete, dec_lt}
-use native.Mathlib.Nat.{eq-zero-or-pos}
+use native.Mathlib.Decide.{ℕ_discrete}
 use Prim.Native.Nat.{ℕ, ◌+◌, ◌*◌, ◌<◌, ◌≤◌}
 use native.Mathlib.Omega.{arith}
 use lib.ListN.{length, length-append}
@@ -23,15 +22,16 @@ use Rattle.layout.specs.declared.Held.{Held}
 use Rattle.layout.specs.declared.Lane.{Lane}
 use Rattle.layout.specs.declared.Extent.{Extent}
 use Rattle.layout.specs.declared.Role.TheVariants.{Active}
-use Rattle.layout.specs.Words.{Lower, after, row₀, position, extent_of, Room, Put, puts, rows_puts}
+use Rattle.layout.specs.Words.{Earlier, NotLater, Lower, NotHigher, after, row₀, position, extent_of, Room, Put, puts, rows_puts}
 use Rattle.layout.specs.Frames.{SameLane, SameLanes, Other}
 use Rattle.layout.specs.Frames as Frames
+use Rattle.layout.proofs.Order.{lower_or_not}
 use Rattle.layout.proofs.Written.{each_lane, each_kind, lane_then}
 use Rattle.layout.proofs.Puts.{puts_lanes}
 use Rattle.table.specs.Marks.{After, active_below}
 use Rattle.table.proofs.Kept.{active_same, position_same}
 use Rattle.packing.specs.Packing.{packed, unpacked, Faithful}
-use Rattle.ranges.specs.Holding.{Roles, roles_of, marks_in, Laid, Started, Unfinished, Soon, Holds}
+use Rattle.ranges.specs.Holding.{upcoming, Roles, roles_of, marks_in, Laid, Started, Unfinished, Soon, Holds}
 use Rattle.ranges.specs.Private.{Grows, Appended, size_for, turning, Turns, Turned, Shared}
 use Rattle.ranges.proofs.Lanes.{lane_same}
 use Rattle.ranges.proofs.Header.{roles_put, roles_same, with_active}
@@ -102,19 +102,19 @@ module _ (h : History) (first w : List ℕ) (active : ℕ) (p : Position) (y : S
         subst (λ (x : List ℕ). Ready h first x l) (sym (q.idle (λ t. omega (arith, t.full))))
         (ready_by refl (laid_more more.1 k.laid) b (inl k.started) k.unfinished k.soon k.marks (k.fresh unmarked) (λ i c. k.rest i (omega (arith, more.1))))
 
-    module _ (n : Lower s.active.rows s.active.capacity → ⊥) where
+    module _ (n : NotHigher s.active.capacity s.active.rows) where
       full : s.active.rows.0 ≡ s.active.capacity.0
-      full = omega (arith, n, k.laid.active.linked.full)
+      full = omega (arith, k.laid.active.linked.full)
 
       -- then the merge is done
-      none : s.younger.rows.0 ≡ 0
-      none = elim (eq-zero-or-pos s.younger.rows.0) [
-        | inl z ↦ z
-        | inr z ↦ absurd (omega (arith, full, k.unfinished z, k.soon z, k.laid.merging.older_some))
+      none : NotHigher s.younger.rows row₀
+      none = elim (lower_or_not row₀ s.younger.rows) [
+        | inr z ↦ z
+        | inl z ↦ absurd (omega (arith, full, k.unfinished z, k.soon z, k.laid.merging.older_some))
       ]
 
       empty : marks_in w s.younger ≡ []
-      empty = ap (active_below w s.younger.lane) none
+      empty = let e : s.younger.rows.0 ≡ 0 = omega (arith, none) in ap (active_below w s.younger.lane) e
 
       both : marks_in w s.older ++ marks_in w s.active ≡ h.active
       both = ap (λ (ps : List Position). marks_in w s.older ++ (ps ++ marks_in w s.active)) (sym empty) ∙ k.marks
@@ -131,7 +131,7 @@ module _ (h : History) (first w : List ℕ) (active : ℕ) (p : Position) (y : S
       turns : Turns w active
       turns = record {
         few = omega (arith, y.few);
-        full = omega (arith, full);
+        full = n;
         free = none;
         older = omega (arith, k.laid.older_few, y.limited, y.few);
         rows = omega (arith, full, k.laid.active.linked.room.few);
@@ -154,9 +154,9 @@ module _ (h : History) (first w : List ℕ) (active : ℕ) (p : Position) (y : S
           (λ g b. absurd (omega arith)) (λ i c. lanes.words i (omega arith) ∙ k.rest i (omega (arith, more.1)))
 
     pub ready : Ready h first v l
-    ready = elim (dec_lt s.active.rows.0 s.active.capacity.0) [
-      | yes b ↦ stays b
-      | no n ↦ subst (λ (x : List ℕ). Ready h first x l) (sym (q.done (turns n))) (ready_turned n)
+    ready = elim (lower_or_not s.active.rows s.active.capacity) [
+      | inl b ↦ stays b
+      | inr n ↦ subst (λ (x : List ℕ). Ready h first x l) (sym (q.done (turns n))) (ready_turned n)
     ]
 
   -- THE MARK'S ROW: x are the words after it is appended, and z after the header is written
@@ -217,16 +217,16 @@ module _ (h : History) (first w : List ℕ) (active : ℕ) (p : Position) (y : S
     position_then : (g : Held) → position z t.active.lane g ≡ position x t.active.lane g
     position_then = position_same (each_kind (each_lane sames t.active.lane) Frames.row)
 
-    spans : (g : Held) → Lower g r.rows → (t.start.0 ≤ (position z r.lane g).0) × ((position z r.lane g).0 < length h.values + 1)
-    spans g b = subst (λ (k : Lane). (t.start.0 ≤ (position z k g).0) × ((position z k g).0 < length h.values + 1)) (sym q.same.0)
+    spans : (g : Held) → Lower g r.rows → NotLater t.start (position z r.lane g) × Earlier (position z r.lane g) (upcoming h.values)
+    spans g b = subst (λ (k : Lane). NotLater t.start (position z k g) × Earlier (position z k g) (upcoming h.values)) (sym q.same.0)
         (elim (ℕ_discrete g.0 t.active.rows.0) [
           | yes e ↦
               let g-is : ◌≡◌ {A = Held} g t.active.rows = λ j. record { 0 = e j } in
               let at : position z t.active.lane g ≡ p = position_then g ∙ ap (position x t.active.lane) g-is ∙ grows.new in
-              subst (λ (i : Position). (t.start.0 ≤ i.0) × (i.0 < length h.values + 1)) (sym at) (omega (arith, present, a.laid.ends), omega (arith, present))
+              subst (λ (i : Position). NotLater t.start i × Earlier i (upcoming h.values)) (sym at) (omega (arith, present, a.laid.ends), omega (arith, present))
           | no e ↦
               let c : Lower g t.active.rows = omega (arith, ap (λ (i : Held). i.0) rows_more) in
-              subst (λ (i : Position). (t.start.0 ≤ i.0) × (i.0 < length h.values + 1)) (sym (position_then g ∙ grows.old g c)) (a.laid.in_active g c)
+              subst (λ (i : Position). NotLater t.start i × Earlier i (upcoming h.values)) (sym (position_then g ∙ grows.old g c)) (a.laid.in_active g c)
         ])
 
     starts : Started (with_active t r) z
@@ -262,16 +262,17 @@ module _ (h : History) (first w : List ℕ) (active : ℕ) (p : Position) (y : S
 
     -- AND TWO ROWS OF THE MERGE
     pub joined_holds : {v : List ℕ} → Shared z v → Holds (accept h Mark).history first v
-    joined_holds {v} g = elim (ℕ_discrete t.younger.rows.0 0) [
-      | yes e ↦
-          subst (Holds (accept h Mark).history first) (sym (g.idle (ap (λ (i : Roles). i.younger.rows.0) roles_then ∙ e)))
-          (holds_by roles_then k.short laid_then starts a.unfinished (λ b. absurd (omega (arith, e))) marks_then (λ b. absurd (no_fresh b)) rest_then)
-      | no e ↦
-          let d = g.done (λ b. e (sym (ap (λ (i : Roles). i.younger.rows.0) roles_then) ∙ b)) in
+    joined_holds {v} g = elim (lower_or_not row₀ t.younger.rows) [
+      | inr e ↦
+          subst (Holds (accept h Mark).history first) (sym (g.idle (subst (λ (i : Roles). NotHigher i.younger.rows row₀) (sym roles_then) e)))
+          (holds_by roles_then k.short laid_then starts a.unfinished (λ b. absurd (omega arith)) marks_then (λ b. absurd (no_fresh b)) rest_then)
+      | inl e ↦
+          let some : Lower row₀ (roles_of z).younger.rows = subst (λ (i : Roles). Lower row₀ i.younger.rows) (sym roles_then) e in
+          let d = g.done some in
           let start : Going (accept h Mark).history first z 2 = record {
             laid = subst (λ (i : Roles). Laid i z h.values l) (sym roles_then) laid_then;
             started = subst (λ (i : Roles). Started i z) (sym roles_then) starts;
-            some = subst (λ (i : Roles). 0 < i.younger.rows.0) (sym roles_then) (omega (arith, e));
+            some = some;
             soon = λ b. subst (λ (i : Roles). Soon i 2) (sym roles_then) (λ c. omega (arith, a.soon c, ap (λ (i : Held). i.0) rows_more, ap (λ (i : Held). i.0) q.same.1));
             marks = subst (λ (i : Roles). marks_in z i.older ++ (marks_in z i.younger ++ marks_in z i.active) ≡ h.active ++ (present_of h ∷ [])) (sym roles_then) marks_then;
             rest = rest_then;

@@ -2,7 +2,7 @@
 use mathlib.Core.Path.{◌≡◌, refl, sym, ap, subst, ◌∙◌}
 use mathlib.Core.List.{List, [], ◌∷◌, ◌++◌}
 use native.Mathlib.Decide.{ℕ_discrete}
-use Prim.Native.Nat.{ℕ, ◌+◌, ◌-◌, ◌/◌, ◌<◌, ◌≤◌}
+use Prim.Native.Nat.{ℕ, ◌+◌, ◌-◌, ◌/◌, ◌≤◌}
 use native.Mathlib.Omega.{arith}
 use lib.IntN.{ℤ}
 use lib.ListN.{length, length-append}
@@ -14,7 +14,7 @@ use Rattle.layout.specs.declared.Held.{Held}
 use Rattle.layout.specs.declared.Place.{Place}
 use Rattle.layout.specs.declared.Lane.{Lane}
 use Rattle.layout.specs.declared.Extent.{Extent}
-use Rattle.layout.specs.Words.{Earlier, Lower, after, above, mark_word, position, least_word, emptied, Room}
+use Rattle.layout.specs.Words.{Earlier, NotLater, Lower, after, above, mark_word, position, least_word, emptied, Room}
 use Rattle.layout.specs.Frames.{Same, SameLane, row, entry, head}
 use Rattle.layout.proofs.Written.{each_kind}
 use Rattle.table.specs.Marks.{After, active_in, inserted, released}
@@ -29,7 +29,7 @@ use Rattle.stack.proofs.Kept.{stacked_same, rests_same}
 use Rattle.stack.proofs.Runs.{rests_unique, top_rests}
 use Rattle.stack.proofs.Lowering.{lowered_within, lowered_stacked, lowered_rests}
 use Rattle.stack.proofs.Pushing.{pushed_within, pushed_stacked, pushed_rests, pushed_older}
-use Rattle.ranges.specs.Holding.{RowHolds, LaneHolds}
+use Rattle.ranges.specs.Holding.{origin, RowHolds, LaneHolds}
 
 -- room for fewer
 pub room_less : {w : List ℕ} {n : ℕ} → Room w n → (m : ℕ) → m ≤ n → Room w m
@@ -113,7 +113,7 @@ lane-released {w} {e} {values} g l a =
 
 -- a mark is appended: u are the words after the insertion of its row
 module _ {w : List ℕ} {e : Extent} {values : List ℤ} {p : Position} (a : LaneHolds w e values) (spare : Lower e.rows e.capacity)
-    (z : 0 < p.0) (l : p.0 ≤ length values) (f : Faithful (minimum values p)) (o : After w e.lane e.rows p) where
+    (z : Earlier origin p) (l : NotLater p (present_at values)) (f : Faithful (minimum values p)) (o : After w e.lane e.rows p) where
   abbrev u : List ℕ
   u = inserted w e.lane e.rows e.capacity p
 
@@ -137,7 +137,7 @@ module _ {w : List ℕ} {e : Extent} {values : List ℤ} {p : Position} (a : Lan
       let x = a.row last b in
       let same : least_word u e.lane t ≡ packed (minimum values (position w e.lane last)) =
       rests_unique stacked_before (top_rests stacked_before t q last (λ i. record { 0 = c i })) (rests_same entries x.rests) in
-      let before : (position w e.lane last).0 ≤ p.0 = omega (arith, o last b) in
+      let before : NotLater (position w e.lane last) p = omega (arith, o last b) in
       subst (λ (y : ℕ). y ≤ packed (minimum values p)) (sym same)
       (packed_rises (minimum values (position w e.lane last)) (minimum values p) x.faithful f
       (minimum_rises values (position w e.lane last) p x.after before l)

@@ -2,7 +2,7 @@
 -- minimum".
 use mathlib.Core.Path.{◌≡◌, sym, ap, subst, ◌∙◌}
 use mathlib.Core.List.{List}
-use Prim.Native.Nat.{ℕ, ◌<◌, min}
+use Prim.Native.Nat.{ℕ, min}
 use native.Mathlib.Omega.{arith}
 use lib.IntN.{ℤ}
 use lib.ListN.{length, take}
@@ -10,9 +10,9 @@ use lib.Seq.{take-take, length-take-le}
 use Rattle.history.specs.declared.Position.{Position}
 use Rattle.history.specs.Minima.{minimum}
 use Rattle.layout.specs.declared.Extent.{Extent}
-use Rattle.layout.specs.Words.{row₀, bottom, position, least_word, Room}
+use Rattle.layout.specs.Words.{Earlier, Lower, NotHigher, row₀, bottom, position, least_word, Room}
 use Rattle.packing.specs.Packing.{packed, Faithful}
-use Rattle.ranges.specs.Holding.{LaneHolds, Roles, Laid, Started}
+use Rattle.ranges.specs.Holding.{origin, LaneHolds, Roles, Laid, Started}
 use Rattle.ranges.proofs.Lanes.{room_less}
 use Rattle.ranges.proofs.Parts.{packed_parts, faithful_parts, lowest_entry}
 
@@ -32,7 +32,7 @@ module _ {s : Roles} {w : List ℕ} {values : List ℤ} {l : ℕ} (a : Laid s w 
   until_long = length-take-le s.start.0 values a.ends
 
   -- a mark of the older lane, up to where the active lane starts: its own lane's, and the younger lane's lowest
-  module _ (p : Position) (z : 0 < p.0) (b : p.0 < s.middle.0) (f : Faithful (minimum (take s.middle.0 values) p)) (some : 0 < s.younger.rows.0) where
+  module _ (p : Position) (z : Earlier origin p) (b : Earlier p s.middle) (f : Faithful (minimum (take s.middle.0 values) p)) (some : Lower row₀ s.younger.rows) where
     same_part : take s.middle.0 until ≡ take s.middle.0 values
     same_part = take-take s.middle.0 s.start.0 values a.order
 
@@ -54,12 +54,12 @@ module _ {s : Roles} {w : List ℕ} {values : List ℤ} {l : ℕ} (a : Laid s w 
     older_faithful = faithful_parts until p s.middle z (omega arith) (omega (arith, until_long, a.order)) faithful_part faithful_rest
 
   -- with no younger lane, its own lane's are all up to there
-  pub older_whole : s.younger.rows.0 ≡ 0 → take s.middle.0 values ≡ until
+  pub older_whole : NotHigher s.younger.rows row₀ → take s.middle.0 values ≡ until
   older_whole z = ap (λ (q : Position). take q.0 values) (a.whole z)
 
   -- a mark that stands still, up to now: that up to where the active lane starts, and the active lane's lowest
-  module _ (started : Started s w) (p : Position) (z : 0 < p.0) (b : p.0 < s.start.0) (f : Faithful (minimum until p)) where
-    first : (0 < s.active.rows.0) × (position w s.active.lane row₀ ≡ s.start)
+  module _ (started : Started s w) (p : Position) (z : Earlier origin p) (b : Earlier p s.start) (f : Faithful (minimum until p)) where
+    first : Lower row₀ s.active.rows × (position w s.active.lane row₀ ≡ s.start)
     first = started (omega arith)
 
     faithful_now : Faithful (minimum values s.start)

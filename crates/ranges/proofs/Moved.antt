@@ -10,7 +10,7 @@ use Rattle.layout.specs.declared.Held.{Held}
 use Rattle.layout.specs.declared.Place.{Place}
 use Rattle.layout.specs.declared.Lane.{Lane}
 use Rattle.layout.specs.declared.Extent.{Extent}
-use Rattle.layout.specs.Words.{Earlier, row₀, position}
+use Rattle.layout.specs.Words.{Earlier, NotLater, row₀, position}
 use Rattle.layout.specs.Frames.{SameLane, Other}
 use Rattle.layout.specs.Frames as Frames
 use Rattle.layout.proofs.Written.{each_kind}
@@ -25,7 +25,7 @@ use Rattle.ranges.proofs.Carrying.{after_same, after_was}
 -- a lane's positions stay with its words
 pub spans_same : {w v : List ℕ} (e : Extent) (from to : Position) → SameLane e.lane w v → Spans w e from to → Spans v e from to
 spans_same e from to s a h l =
-    subst (λ (p : Position). (from.0 ≤ p.0) × Earlier p to) (sym (position_same (each_kind s Frames.row) h)) (a h l)
+    subst (λ (p : Position). NotLater from p × Earlier p to) (sym (position_same (each_kind s Frames.row) h)) (a h l)
 
 -- and so does a position that is known
 pub first_same : {w v : List ℕ} {k : Lane} {p : Position} → SameLane k w v → position w k row₀ ≡ p → position v k row₀ ≡ p

@@ -12,7 +12,7 @@ use Rattle.history.specs.Minimum.{Minimum}
 use Rattle.history.specs.Minima.{takes_over, lower, minimum}
 use Rattle.history.proofs.TwoParts.{part_place, rest_place, parts_meet, minimum_parts}
 use Rattle.layout.specs.declared.Extent.{Extent}
-use Rattle.layout.specs.Words.{row₀, bottom, position, least_word}
+use Rattle.layout.specs.Words.{Lower, row₀, bottom, position, least_word}
 use Rattle.packing.specs.Packing.{packed, Faithful}
 use Rattle.packing.proofs.Words.{packed-lower, faithful_lower}
 use Rattle.stack.proofs.Runs.{rests_unique, covers_rests, first_covers}
@@ -48,6 +48,6 @@ module _ (vs : List ℤ) (i u : Position) (z : 0 < i.0) (o : i.0 ≤ u.0) (h : u
   faithful_parts = subst Faithful (sym (minimum_parts vs i u z o h)) (faithful_lower d m f g)
 
 -- the lowest entry of a lane is its first row's minimum
-pub lowest_entry : {w : List ℕ} {e : Extent} {values : List ℤ} → LaneHolds w e values → 0 < e.rows.0
+pub lowest_entry : {w : List ℕ} {e : Extent} {values : List ℤ} → LaneHolds w e values → Lower row₀ e.rows
     → least_word w e.lane bottom ≡ packed (minimum values (position w e.lane row₀))
 lowest_entry a l = rests_unique a.stacked (covers_rests (first_covers a.stacked l)) (a.row row₀ l).rests

@@ -8,11 +8,9 @@ use Rattle.std.proofs.Common.{◌++◌, replicate, take, drop}
 use Rattle.std.proofs.lemmas.List.{length-take-le}
 use Rattle.std.proofs.lemmas.Grind.{common_steps}
 use native.Mathlib.Decide.{dec_lt}
-use native.Mathlib.Nat.{eq-zero-or-pos}
 use Prim.Native.Nat.{ℕ, ◌<◌, ◌≤◌, min}
 use native.Mathlib.Omega.{arith}
 use lib.ListN.{length, get_or, set}
-use Rattle.laws.proofs.Tests.{lt_or_ge}
 use Rattle.history.specs.declared.Position.{Position}
 use Rattle.history.specs.Minimum.{Minimum}
 use Rattle.history.specs.declared.Command.TheVariants.{Close}
@@ -24,7 +22,8 @@ use Rattle.layout.specs.declared.Place.{Place}
 use Rattle.layout.specs.declared.Extent.{Extent}
 use Rattle.layout.specs.declared.Role.{Role}
 use Rattle.layout.specs.declared.Role.TheVariants.{Active, Younger, Older, Next}
-use Rattle.layout.specs.Words.{Under, bottom, least_word, extent_of, start_of, Room, puts}
+use Rattle.layout.specs.Words.{Earlier, NotLater, Under, bottom, least_word, extent_of, start_of, Room, puts}
+use Rattle.layout.proofs.Order.{earlier_or_not, under_or_not}
 use Rattle.layout.proofs.Written.{wrote_header}
 use Rattle.layout.proofs.Puts.{puts_lanes}
 use Rattle.table.specs.Marks.{Live, released}
@@ -106,9 +105,9 @@ lower_entry {w} {x} {r} role a q =
     let e = extent_of w role in
     let same : r ≡ x → Entry w r = λ z. (a.0, a.1, a.2, z ∙ a.3) in
     ⊎_elim
-    (λ (b : Room w e.height.0). elim (eq-zero-or-pos e.height.0) [
-      | inl z ↦ same (q.none (λ c d. omega arith))
-      | inr z ↦
+    (λ (b : Room w e.height.0). elim (under_or_not bottom e.height) [
+      | inr z ↦ same (q.none (λ c d. omega arith))
+      | inl z ↦
           let y = least_word w e.lane bottom in
           elim (dec_lt y x) [
             | yes l ↦ (role, bottom, z, q.some b z ∙ (let m : min x y ≡ y = omega arith in m))
@@ -133,16 +132,17 @@ module _ (w : List ℕ) (p : Position) (role : Role) (e : Extent) (own : e ≡ e
   sought = subst (λ (x : Extent). Sought w x.lane x.rows x.capacity p found) own q
 
   -- the active lane is chosen where the position is not before its start
-  started : role ≡ Active → (start_of w Active).0 ≤ p.0
-  started a =
-      ⊎_elim
-      (λ (l : p.0 < (start_of w Active).0).
-      ⊎_elim (λ (m : p.0 < (start_of w Younger).0). apart Active Older a (c.older l m) (λ z. omega arith))
-      (λ (m : (start_of w Younger).0 ≤ p.0). apart Active Younger a (c.younger l m) (λ z. omega arith)) (lt_or_ge p.0 (start_of w Younger).0))
-      (λ (l : (start_of w Active).0 ≤ p.0). l) (lt_or_ge p.0 (start_of w Active).0)
+  started : role ≡ Active → NotLater (start_of w Active) p
+  started a = elim (earlier_or_not p (start_of w Active)) [
+    | inr l ↦ l
+    | inl l ↦ elim (earlier_or_not p (start_of w Younger)) [
+      | inl m ↦ apart Active Older a (c.older l m) (λ z. omega arith)
+      | inr m ↦ apart Active Younger a (c.younger l m) (λ z. omega arith)
+    ]
+  ]
 
-  earlier : (role ≡ Active → ⊥) → p.0 < (start_of w Active).0
-  earlier n = ⊎_elim (λ (l : p.0 < (start_of w Active).0). l) (λ (l : (start_of w Active).0 ≤ p.0). absurd (n (c.active l))) (lt_or_ge p.0 (start_of w Active).0)
+  earlier : (role ≡ Active → ⊥) → Earlier p (start_of w Active)
+  earlier n = elim (earlier_or_not p (start_of w Active)) [ inl l ↦ l | inr l ↦ absurd (n (c.active l)) ]
 
   -- the mark is not found
   pub not_there : found ≡ None → (h : History) (first : List ℕ) → Holds h first w → among p h.active ≡ false
@@ -172,9 +172,9 @@ module _ (w : List ℕ) (p : Position) (role : Role) (e : Extent) (own : e ≡ e
       module _ (x r : ℕ) (shows : low ≡ Some x) (up : UpToNow w role x r) where
         entry : Entry w x
         entry = ⊎_elim
-            (λ (b : Room w ex.height.0). elim (eq-zero-or-pos ex.height.0) [
-              | inl z ↦ absurd (let f : None ≡ Some x = sym (looked.nothing (λ d f. omega arith)) ∙ shows in cc)
-              | inr z ↦
+            (λ (b : Room w ex.height.0). elim (under_or_not bottom ex.height) [
+              | inr z ↦ absurd (let f : None ≡ Some x = sym (looked.nothing (λ d f. omega arith)) ∙ shows in cc)
+              | inl z ↦
                   let t = looked.shown b z in
                   let same : Some x ≡ Some (least_word w ex.lane t.0) = sym shows ∙ t.2 in
                   let f : x ≡ least_word w ex.lane t.0 = cc in

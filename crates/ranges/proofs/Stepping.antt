@@ -2,8 +2,7 @@
 use mathlib.Core.Path.{◌≡◌, refl, sym, ap, ◌∙◌}
 use mathlib.Core.List.{List, [], ◌++◌, append-nil, append_assoc}
 use mathlib.Core.Logic.{inl, inr}
-use Prim.Native.Nat.{ℕ, ◌+◌, ◌*◌, ◌<◌, ◌≤◌, min}
-use native.Mathlib.Nat.{eq-zero-or-pos}
+use Prim.Native.Nat.{ℕ, ◌+◌, ◌*◌, ◌≤◌, min}
 use native.Mathlib.Omega.{arith}
 use lib.IntN.{ℤ}
 use lib.ListN.{length, get_or, take, length-append}
@@ -13,9 +12,10 @@ use Rattle.layout.specs.declared.Held.{Held}
 use Rattle.layout.specs.declared.Place.{Place}
 use Rattle.layout.specs.declared.Lane.{Lane}
 use Rattle.layout.specs.declared.Role.TheVariants.{Younger, Older, Next}
-use Rattle.layout.specs.Words.{Lower, after, bottom, position, least_word, extent_of}
+use Rattle.layout.specs.Words.{Earlier, Lower, row₀, after, bottom, position, least_word, extent_of}
 use Rattle.layout.specs.Frames.{SameLane, Other}
 use Rattle.layout.specs.Frames as Frames
+use Rattle.layout.proofs.Order.{lower_or_not}
 use Rattle.layout.proofs.Written.{lane_then, each_lane, each_kind}
 use Rattle.layout.specs.Words.{Put, puts, left_puts}
 use Rattle.layout.proofs.Puts.{puts_lanes}
@@ -45,7 +45,7 @@ pub record Steps (w v : List ℕ) (s t : Roles) (values : List ℤ) (l : ℕ) : 
   pub rest : (i : ℕ) → 512 + 64 * l ≤ i → get_or v i 0 ≡ get_or w i 0
 
 module _ {w : List ℕ} {values : List ℤ} {l : ℕ} (a : Laid (roles_of w) w values l) (short : length values ≤ 4294967295) (m : 32 ≤ length w)
-    (merging : 0 < (extent_of w Younger).rows.0) where
+    (merging : Lower row₀ (extent_of w Younger).rows) where
   abbrev s : Roles
   s = roles_of w
 
@@ -74,12 +74,12 @@ module _ {w : List ℕ} {values : List ℤ} {l : ℕ} (a : Laid (roles_of w) w v
     ps = left_puts Older (after h) run
 
     none_younger : s.younger_left.0 ≡ 0
-    none_younger = elim (eq-zero-or-pos s.younger_left.0) [ inl z ↦ z | inr z ↦ absurd (omega (arith, a.merging.in_order z)) ]
+    none_younger = elim (lower_or_not row₀ s.younger_left) [ inl z ↦ absurd (omega (arith, a.merging.in_order z)) | inr z ↦ omega arith ]
 
     row : RowHolds w k s.older.height (take s.middle.0 values) h p
     row = a.older.row h left
 
-    sooner : p.0 < s.middle.0
+    sooner : Earlier p s.middle
     sooner = (a.in_older h left).1
 
     word_is : x ≡ packed (minimum (until a) p)
@@ -190,7 +190,7 @@ module _ {w : List ℕ} {values : List ℤ} {l : ℕ} (a : Laid (roles_of w) w v
               (record {
                 older_some = a.merging.older_some;
                 younger_some = omega arith;
-                in_order = λ z. all;
+                in_order = λ z. omega (arith, all);
                 older_covers = λ z. covers_same (each_kind so Frames.entry) (a.merging.older_covers z);
                 younger_covers = λ z. covers_same (each_kind (each_lane lanes k') Frames.entry)
                     (advance_covers (stacked_same (each_kind (carried'.others k' a.apart.yn) Frames.entry) a.younger.stacked) (room_same carried'.long (heights a.younger))

@@ -1,7 +1,7 @@
 -- A turn, when the active lane is full, and the end of a merge. Both only give the lanes other roles.
 use mathlib.Core.Path.{◌≡◌, refl, sym, ap, subst, ◌∙◌}
 use mathlib.Core.List.{List, ◌++◌, append_assoc}
-use Prim.Native.Nat.{ℕ, ◌+◌, ◌*◌, ◌<◌, ◌≤◌}
+use Prim.Native.Nat.{ℕ, ◌+◌, ◌*◌, ◌≤◌}
 use native.Mathlib.Omega.{arith}
 use lib.IntN.{ℤ}
 use lib.ListN.{length, take}
@@ -9,7 +9,7 @@ use lib.Seq.{take_all}
 use Rattle.history.specs.declared.Position.{Position}
 use Rattle.layout.specs.declared.Held.{Held}
 use Rattle.layout.specs.declared.Lane.{Lane}
-use Rattle.layout.specs.Words.{row₀, bottom, emptied, Room}
+use Rattle.layout.specs.Words.{Lower, NotHigher, row₀, bottom, emptied, Room}
 use Rattle.layout.specs.Frames.{SameLanes, SameLane}
 use Rattle.layout.specs.Frames as Frames
 use Rattle.layout.proofs.Written.{each_lane, each_kind}
@@ -36,7 +36,7 @@ finished s = record {
   older_run = bottom;
 }
 
-module _ {s : Roles} {w v : List ℕ} {values : List ℤ} {l : ℕ} (a : Laid s w values l) (same : SameLanes w v) (some : 0 < s.younger.rows.0) (older : s.older_left.0 ≡ s.older.rows.0)
+module _ {s : Roles} {w v : List ℕ} {values : List ℤ} {l : ℕ} (a : Laid s w values l) (same : SameLanes w v) (some : Lower row₀ s.younger.rows) (older : s.older_left.0 ≡ s.older.rows.0)
     (younger : s.younger_left.0 ≡ s.younger.rows.0) where
   lane : (k : Lane) → SameLane k w v
   lane = each_lane same
@@ -114,9 +114,9 @@ turned s p capacity room = record {
 }
 
 module _ {s : Roles} {w v : List ℕ} {values : List ℤ} {l m c : ℕ} (p : Position) (capacity room : Held) (a : Laid s w values l) (same : SameLanes w v) (full : s.active.rows.0 ≡ s.active.capacity.0)
-    (free : s.younger.rows.0 ≡ 0) (started : Started s w) (here : p.0 ≡ length values) (fresh : After w s.active.lane s.active.rows p)
+    (free : NotHigher s.younger.rows row₀) (started : Started s w) (here : p.0 ≡ length values) (fresh : After w s.active.lane s.active.rows p)
     (count : length (marks_in w s.older) + length (marks_in w s.active) ≡ c) (more : c + 1 ≤ m) (peak : l ≤ m) (is : room.0 ≡ 2 * c + 17)
-    (enough : s.older.rows.0 + s.active.rows.0 ≤ 2 * capacity.0) (some : 0 < capacity.0) (below : capacity.0 ≤ 15 + 2 * m) (r₁ : Room v capacity.0) (r₂ : Room v room.0) where
+    (enough : s.older.rows.0 + s.active.rows.0 ≤ 2 * capacity.0) (some : Lower row₀ capacity) (below : capacity.0 ≤ 15 + 2 * m) (r₁ : Room v capacity.0) (r₂ : Room v room.0) where
   lane' : (k : Lane) → SameLane k w v
   lane' = each_lane same
 

@@ -17,7 +17,7 @@ use Rattle.layout.specs.declared.Place.{Place}
 use Rattle.layout.specs.declared.Lane.{Lane}
 use Rattle.layout.specs.declared.Extent.{Extent}
 use Rattle.layout.specs.declared.Role.TheVariants.{Active, Younger, Older, Next}
-use Rattle.layout.specs.Words.{Earlier, row₀, position, emptied, Put, puts, extent_puts, Room}
+use Rattle.layout.specs.Words.{Earlier, NotLater, row₀, position, emptied, Put, puts, extent_puts, Room}
 use Rattle.layout.specs.Frames.{SameLane}
 use Rattle.layout.specs.Frames as Frames
 use Rattle.layout.proofs.Written.{each_lane, each_kind, lane_then}
@@ -27,7 +27,7 @@ use Rattle.table.proofs.Kept.{active_same, position_same}
 use Rattle.packing.specs.Packing.{packed, Faithful}
 use Rattle.stack.specs.Calls.{Lowered}
 use Rattle.stack.proofs.Lowering.{lowered_within}
-use Rattle.ranges.specs.Holding.{Roles, roles_of, marks_in, Laid, Started, Unfinished, Soon, Holds}
+use Rattle.ranges.specs.Holding.{upcoming, Roles, roles_of, marks_in, Laid, Started, Unfinished, Soon, Holds}
 use Rattle.ranges.proofs.Lanes.{lane_empty, lane_same, lane_lowered}
 use Rattle.ranges.proofs.Header.{roles_by, roles_by_lem, roles_put, roles_same, with_active}
 use Rattle.ranges.proofs.Moved.{laid_active}
@@ -129,7 +129,7 @@ module _ (h : History) (first w u : List ℕ) (x : ℤ) (r : Place) (k : Holds h
       (omega (arith, more))
       (laid_active e k.laid long sy so sn refl refl (λ n c. take-append-le n h.values (x ∷ []) c) (omega (arith, more))
       (lane_same lanes.long (each_lane lanes roles.active.lane) (lane_lowered x f q k.laid.active))
-      (λ g c. subst (λ (p : Position). (roles.start.0 ≤ p.0) × (p.0 < length (h.values ++ (x ∷ [])) + 1)) (sym (kept g)) ((k.laid.in_active g c).0, omega (arith, more, (k.laid.in_active g c).1))))
+      (λ g c. subst (λ (p : Position). NotLater roles.start p × Earlier p (upcoming (h.values ++ (x ∷ [])))) (sym (kept g)) ((k.laid.in_active g c).0, omega (arith, more, (k.laid.in_active g c).1))))
       (λ z. ((k.started z).0, kept row₀ ∙ (k.started z).1))
       k.unfinished k.soon
       ((λ n. active_same (each_kind so Frames.row) roles.older.rows.0 n ++ (active_same (each_kind sy Frames.row) roles.younger.rows.0 n

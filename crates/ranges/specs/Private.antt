@@ -1,19 +1,19 @@
 -- The contracts of the ranges' private functions.
-use Rattle.std.specs.Prelude.{◌≡◌, Bool, true, List, [], ◌∷◌, ◌++◌, ◌⊎◌, ℕ, Option, None, Some, ◌+◌, ◌*◌, ◌/◌, ◌%◌, ◌<◌, ◌≤◌, ltb, min, max, ℤ, length}
+use Rattle.std.specs.Prelude.{◌≡◌, Bool, true, false, List, [], ◌∷◌, ◌++◌, ◌⊎◌, ℕ, Option, None, Some, ◌+◌, ◌*◌, ◌/◌, ◌%◌, ◌<◌, ◌≤◌, min, max, ℤ}
 use Rattle.history.specs.declared.Position.{Position}
-use Rattle.history.specs.Minima.{minimum}
+use Rattle.history.specs.Minima.{present_at, minimum}
 use Rattle.layout.specs.declared.Held.{Held}
 use Rattle.layout.specs.declared.Place.{Place}
 use Rattle.layout.specs.declared.Extent.{Extent}
 use Rattle.layout.specs.declared.Role.{Role}
 use Rattle.layout.specs.declared.Role.TheVariants.{Active, Younger, Older, Next}
-use Rattle.layout.specs.Words.{Lower, Under, after, row₀, bottom, mark_word, position, least_word, extent_of, start_of, left_of, run_of, emptied, Room, Put, puts, extent_puts, rows_puts, start_puts, left_puts}
+use Rattle.layout.specs.Words.{Earlier, NotLater, Lower, NotHigher, Under, after, row₀, bottom, mark_word, position, least_word, extent_of, start_of, left_of, run_of, emptied, Room, Put, puts, extent_puts, rows_puts, start_puts, left_puts}
 use Rattle.layout.specs.Frames.{Kind, Within}
 use Rattle.table.specs.Marks.{After}
 use Rattle.table.specs.Calls.{Sought, Released}
 use Rattle.packing.specs.Packing.{packed, Faithful}
 use Rattle.stack.specs.Calls.{Advanced}
-use Rattle.ranges.specs.Holding.{LaneHolds, marks_in}
+use Rattle.ranges.specs.Holding.{origin, LaneHolds, marks_in}
 
 -- every kind of word
 abbrev pub every_kind : Kind → Bool
@@ -23,6 +23,7 @@ every_kind kind = true
 pub record Spare (w : List ℕ) (e : Extent) : Type 0 where
   pub room : Room w e.capacity.0
   pub row : Lower e.rows e.capacity
+  -- no more entries than rows
   pub high : e.height.0 ≤ e.rows.0
 
 -- a lane gets one row more, at a position after all others, with its range minimum
@@ -38,7 +39,7 @@ pub record Appended (w v : List ℕ) (e : Extent) (p : Position) (x : ℕ) (r : 
   pub idle : (Spare w e → ⊥) → (v ≡ w) × (r ≡ e)
   pub same : (r.lane ≡ e.lane) × (r.capacity ≡ e.capacity)
   pub more : Spare w e → r.rows ≡ after e.rows
-  pub grows : (values : List ℤ) → LaneHolds w e values → Lower e.rows e.capacity → After w e.lane e.rows p → 0 < p.0 → p.0 ≤ length values
+  pub grows : (values : List ℤ) → LaneHolds w e values → Lower e.rows e.capacity → After w e.lane e.rows p → Earlier origin p → NotLater p (present_at values)
       → x ≡ packed (minimum values p) → Faithful (minimum values p) → Grows w v e r values p
 
 -- `join`: a mark is appended to the lane of a role, and the header has its rows and its height as they are then
@@ -57,14 +58,14 @@ pub record Carried (w v : List ℕ) (e : Extent) (h : Held) (x : ℕ) : Type 0 w
 
 -- `below`: the lower of a word and of the lowest entry of a role's lane; where it has none, the word
 pub record LowerOf (w : List ℕ) (role : Role) (x r : ℕ) : Type 0 where
-  pub some : Room w (extent_of w role).height.0 → 0 < (extent_of w role).height.0 → r ≡ min x (least_word w (extent_of w role).lane bottom)
-  pub none : (Room w (extent_of w role).height.0 → 0 < (extent_of w role).height.0 → ⊥) → r ≡ x
+  pub some : Room w (extent_of w role).height.0 → Under bottom (extent_of w role).height → r ≡ min x (least_word w (extent_of w role).lane bottom)
+  pub none : (Room w (extent_of w role).height.0 → Under bottom (extent_of w role).height → ⊥) → r ≡ x
 
 -- `role_of`: the active lane from where it starts, before that the younger one from where that starts, and before that the older one
 pub record Chosen (w : List ℕ) (p : Position) (r : Role) : Type 0 where
-  pub active : (start_of w Active).0 ≤ p.0 → r ≡ Active
-  pub younger : p.0 < (start_of w Active).0 → (start_of w Younger).0 ≤ p.0 → r ≡ Younger
-  pub older : p.0 < (start_of w Active).0 → p.0 < (start_of w Younger).0 → r ≡ Older
+  pub active : NotLater (start_of w Active) p → r ≡ Active
+  pub younger : Earlier p (start_of w Active) → NotLater (start_of w Younger) p → r ≡ Younger
+  pub older : Earlier p (start_of w Active) → Earlier p (start_of w Younger) → r ≡ Older
 
 -- `up_to_start`: of a mark in the older lane, the lower of its own minimum and the younger lane's lowest
 pub record UpToStart (w : List ℕ) (role : Role) (x r : ℕ) : Type 0 where
@@ -84,9 +85,10 @@ pub record ClosedNext (w v : List ℕ) (p : Position) : Type 0 where
   pub lost : found ≡ None → v ≡ w
   pub closed : (g : Held) → found ≡ Some g → Released w v (extent_of w Next).lane (extent_of w Next).rows g
 
--- `has_left`: a row of a role's lane is left to be carried
-abbrev pub has_left : List ℕ → Role → Bool
-has_left w role = ltb (left_of w role).0 (extent_of w role).rows.0
+-- `has_left`: whether a row of a role's lane is left to be carried
+pub record Remains (w : List ℕ) (role : Role) (r : Bool) : Type 0 where
+  pub some : r ≡ true → Lower (left_of w role) (extent_of w role).rows
+  pub none : r ≡ false → NotHigher (extent_of w role).rows (left_of w role)
 
 -- `step`: the next row of a lane is carried, with its minimum up to where the active lane starts; where none is left, or its run cannot be read, nothing is done
 pub record Step (w v : List ℕ) (role : Role) : Type 0 where
@@ -105,7 +107,7 @@ pub record Stepped (w v : List ℕ) (role : Role) : Type 0 where
 -- `merge_row`: a row of the older lane, and when none of these is left, of the younger one
 pub record Merged (w v : List ℕ) : Type 0 where
   pub older : Lower (left_of w Older) (extent_of w Older).rows → Stepped w v Older
-  pub younger : (extent_of w Older).rows.0 ≤ (left_of w Older).0 → Stepped w v Younger
+  pub younger : NotHigher (extent_of w Older).rows (left_of w Older) → Stepped w v Younger
 
 -- `finish`: when no row is left, the next lane is the older one, and there is no younger one
 abbrev pub finishing : List ℕ → List Put
@@ -117,7 +119,7 @@ finishing w =
 
 pub record Finished (w v : List ℕ) : Type 0 where
   pub waits : Lower (left_of w Older) (extent_of w Older).rows ⊎ Lower (left_of w Younger) (extent_of w Younger).rows → v ≡ w
-  pub done : (extent_of w Older).rows.0 ≤ (left_of w Older).0 → (extent_of w Younger).rows.0 ≤ (left_of w Younger).0 → v ≡ puts (finishing w) w
+  pub done : NotHigher (extent_of w Older).rows (left_of w Older) → NotHigher (extent_of w Younger).rows (left_of w Younger) → v ≡ puts (finishing w) w
 
 -- `size_for`: document 000's Lemma 7 asks for "an active structure that can support (a₁ + a₂) / 2 elements", and here it can support one more for each active mark, and 17, if that is more
 abbrev pub size_for : ℕ → ℕ → ℕ
@@ -134,8 +136,8 @@ turning w active p =
 
 pub record Turns (w : List ℕ) (active : ℕ) : Type 0 where
   pub few : active < 4096
-  pub full : (extent_of w Active).capacity.0 ≤ (extent_of w Active).rows.0
-  pub free : (extent_of w Younger).rows.0 ≡ 0
+  pub full : NotHigher (extent_of w Active).capacity (extent_of w Active).rows
+  pub free : NotHigher (extent_of w Younger).rows row₀
   pub older : (extent_of w Older).rows.0 ≤ 8207
   pub rows : (extent_of w Active).rows.0 ≤ 8207
 
@@ -152,5 +154,5 @@ pub record Share (w v : List ℕ) : Type 0 where
   pub last : Finished two v
 
 pub record Shared (w v : List ℕ) : Type 0 where
-  pub idle : (extent_of w Younger).rows.0 ≡ 0 → v ≡ w
-  pub done : ((extent_of w Younger).rows.0 ≡ 0 → ⊥) → Share w v
+  pub idle : NotHigher (extent_of w Younger).rows row₀ → v ≡ w
+  pub done : Lower row₀ (extent_of w Younger).rows → Share w v

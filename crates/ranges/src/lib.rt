@@ -5,7 +5,7 @@
 
 ghost use Rattle.std.specs.Prelude.{◌≡◌, ◌<◌, ◌≤◌, length};
 ghost use Rattle.ranges.specs.Calls.{Opened, Valued, Marked, LookedUp, Closed};
-ghost use Rattle.ranges.specs.Private.{Chosen, LowerOf, UpToStart, UpToNow, ClosedNext, Appended, Joined, Carried, has_left, Stepped, Merged, Finished, size_for, Turned, Share, Shared};
+ghost use Rattle.ranges.specs.Private.{Chosen, LowerOf, UpToStart, UpToNow, ClosedNext, Appended, Joined, Carried, Remains, Stepped, Merged, Finished, size_for, Turned, Share, Shared};
 
 use history::{Minimum, Position};
 use layout::{Extent, Held, Lane, Place, Role};
@@ -189,9 +189,9 @@ fn carry(area: &mut [u64], e: Extent, held: Held, word: u64)
 // Whether a row of a role's lane is left to be carried.
 fn has_left(area: &[u64], role: Role) -> bool
     requires { 32 ≤ length area.now }
-    ensures { result ≡ has_left area.now role }
+    ensures { Remains area.now role result }
 {
-    area[role.left()] < area[role.rows()]
+    Held(area[role.left()] as usize) < Held(area[role.rows()] as usize)
 }
 
 // The next row of a lane is carried, if one is left.
@@ -312,7 +312,7 @@ fn merge(area: &mut [u64])
     requires { 32 ≤ length area.old }
     ensures { Shared area.old area.new }
 {
-    if area[Role::Younger.rows()] == 0 {
+    if Held(area[Role::Younger.rows()] as usize) == Held(0) {
         return;
     }
     share(area);

@@ -11,7 +11,7 @@ use Rattle.std.proofs.lemmas.Bool.Decides.{nat_tests}
 use Rattle.layout.specs.declared.Held.{Held}
 use Rattle.layout.specs.declared.Place.{Place}
 use Rattle.layout.specs.declared.Lane.{Lane}
-use Rattle.layout.specs.Words.{Lower, word, Room}
+use Rattle.layout.specs.Words.{Lower, Under, bottom, word, Room}
 use Rattle.stack.specs.Entries.{Stacked, Covers}
 use Rattle.stack.specs.Private.{starts_after, Located}
 
@@ -23,8 +23,8 @@ early : (first row : ℕ) → false ≡ ltb row first → first ≤ row
 early first row e = grind (arith, nat_tests)
 
 -- the search is among the places above the bottom
-pub found : {w : List ℕ} {k : Lane} {height : Place} {h : Held} {n : ℕ} → 0 < height.0 → n ≤ height.0 - 1 → (n < height.0 - 1 → true ≡ starts_after w k h.0 (n + 1))
-    → ((i : ℕ) → i + 1 ≡ n → false ≡ starts_after w k h.0 (i + 1)) → Located w k height h (record { 0 = n })
+pub found : {w : List ℕ} {k : Lane} {height : Place} {h : Held} {n : ℕ} → Under bottom height → n ≤ height.0 - 1 → (n < height.0 - 1 → true ≡ starts_after w k h (record { 0 = n + 1 }))
+    → ((i : ℕ) → i + 1 ≡ n → false ≡ starts_after w k h (record { 0 = i + 1 })) → Located w k height h (record { 0 = n })
 found {w} {k} {height} {h} {n} some within here before = record { within = omega (arith, within); covers = covers }
   where
     covers : (rows : Held) → Room w rows.0 → Stacked w k rows height → Lower h rows → Covers w k height (record { 0 = n }) h

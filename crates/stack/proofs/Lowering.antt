@@ -3,17 +3,17 @@
 use mathlib.Core.Path.{refl, ap, ◌∙◌}
 use mathlib.Core.List.{List}
 use mathlib.Core.Logic.{⊎_elim}
-use Prim.Native.Nat.{ℕ, ◌+◌, ◌*◌, ◌<◌, ◌≤◌, min}
+use Prim.Native.Nat.{ℕ, ◌+◌, ◌*◌, min}
 use native.Mathlib.Nat.{min-eq_left, min-eq_right}
 use native.Mathlib.Omega.{arith}
 use lib.Seq.{get_or-set_same, get_or-set_other}
-use Rattle.laws.proofs.Tests.{lt_or_ge}
 use Rattle.layout.specs.declared.Held.{Held}
 use Rattle.layout.specs.declared.Place.{Place}
 use Rattle.layout.specs.declared.Lane.{Lane}
-use Rattle.layout.specs.Words.{Under, above, base_of, word, first, Room}
+use Rattle.layout.specs.Words.{Under, NotAbove, above, base_of, word, first, Room}
 use Rattle.layout.specs.Frames.{Within}
 use Rattle.layout.proofs.Written.{untouched, wrote}
+use Rattle.layout.proofs.Order.{under_or_not}
 use Rattle.stack.specs.Entries.{Stacked, Rests, lowered, by_stack}
 use Rattle.stack.specs.Calls.{Lowered}
 use Rattle.stack.proofs.Runs.{first_rises}
@@ -22,14 +22,14 @@ use Rattle.stack.proofs.NewTop.{Grown, stacked_grown, top_grown, below_grown}
 
 module _ {w v : List ℕ} {k : Lane} {height : Place} {x : ℕ} {r : Place} (d : Lowered w v k height x r) where
   -- nothing is done, or the entries from a place up are taken over
-  done : (P : List ℕ → Place → Type 0) → ((Room w height.0 → height.0 ≤ d.at.0) → P w height)
+  done : (P : List ℕ → Place → Type 0) → ((Room w height.0 → NotAbove height d.at) → P w height)
       → (Room w height.0 → Under d.at height → P (lowered w k d.at x) (above d.at)) → P v r
   done P none some =
       ⊎_elim
       (λ (room : Room w height.0).
-      ⊎_elim (λ (l : d.at.0 < height.0). rw ((d.some room l).0, (d.some room l).1) (some room l))
-      (λ (l : height.0 ≤ d.at.0). rw ((d.none l).0, (d.none l).1) (none (λ o. l)))
-      (lt_or_ge d.at.0 height.0))
+      ⊎_elim (λ (l : Under d.at height). rw ((d.some room l).0, (d.some room l).1) (some room l))
+      (λ (l : NotAbove height d.at). rw ((d.none l).0, (d.none l).1) (none (λ o. l)))
+      (under_or_not d.at height))
       (λ (no : Room w height.0 → ⊥). rw ((d.idle no).0, (d.idle no).1) (none (λ o. absurd (no o))))
       (room_or_not w height.0)
 
@@ -74,10 +74,10 @@ module _ {w v : List ℕ} {k : Lane} {height : Place} {x : ℕ} {r : Place} (d :
         done (λ u z. Rests u k z h (min y x)) (λ n. rw (min-eq_left {n = y} {m = x} (omega (arith, q.same, parts.stay q.place (omega (arith, c.on, n o))))) q)
         (λ o l.
         ⊎_elim
-        (λ (b : q.place.0 < d.at.0).
+        (λ (b : Under q.place d.at).
         rw (min-eq_left {n = y} {m = x} (omega (arith, q.same, parts.stay q.place b)))
         (below_grown (grown o l) q (omega arith) b (omega (arith, c.to (omega arith), first_rises s (above q.place) d.at (omega arith) l))))
-        (λ (b : d.at.0 ≤ q.place.0).
+        (λ (b : NotAbove d.at q.place).
         rw (min-eq_right {n = x} {m = y} (omega (arith, q.same, parts.go q.place b c.on)))
         (top_grown (grown o l) h (omega (arith, c.from, first_rises s d.at q.place b c.on))))
-        (lt_or_ge q.place.0 d.at.0))
+        (under_or_not q.place d.at))

@@ -9,7 +9,7 @@ use native.Mathlib.Omega.{arith}
 use Rattle.layout.specs.declared.Held.{Held}
 use Rattle.layout.specs.declared.Place.{Place}
 use Rattle.layout.specs.declared.Lane.{Lane}
-use Rattle.layout.specs.Words.{Under, above, bottom, word, least_word, first}
+use Rattle.layout.specs.Words.{NotHigher, Under, NotAbove, above, bottom, word, least_word, first}
 use Rattle.stack.specs.Entries.{Stacked, Rests}
 
 -- the entries of v are those of w with the word x as the top, whose run starts at row f
@@ -37,7 +37,7 @@ module _ {w v : List ℕ} {k : Lane} {top : Place} {x f : ℕ} (g : Grown w v k 
   least_top t e = ap (λ (i : ℕ). word v k i 4) e ∙ g.new
 
   -- the runs below with the new top's are a stack of as many rows or more
-  pub stacked_grown : {old rows : Held} {height : Place} → Stacked w k old height → top.0 ≤ height.0 → old.0 ≤ rows.0 → Continues w k rows top x f
+  pub stacked_grown : {old rows : Held} {height : Place} → Stacked w k old height → NotAbove top height → NotHigher old rows → Continues w k rows top x f
       → Stacked v k rows (above top)
   stacked_grown {old} {rows} {height} s p o on = record {
     low = omega (arith, on.low);
@@ -45,15 +45,15 @@ module _ {w v : List ℕ} {k : Lane} {top : Place} {x f : ℕ} (g : Grown w v k 
     bottom = λ l. ap (λ (i : ℕ). record { 0 = i }) (at_bottom (omega arith));
     below = λ t l.
         ⊎_elim (λ (e : t.0 ≡ top.0). omega (arith, first-top t e, on.inside))
-        (λ (m : t.0 < top.0). omega (arith, g.starts t m, s.below t (omega arith)))
+        (λ (m : Under t top). omega (arith, g.starts t m, s.below t (omega arith)))
         (eq-or-lt_of_le (omega arith));
     rising = λ t l.
-        let m : t.0 < top.0 = omega arith in
+        let m : Under t top = omega arith in
         ⊎_elim (λ (e : t.0 + 1 ≡ top.0). omega (arith, g.starts t m, first-top (above t) e, on.after t e))
         (λ (b : t.0 + 1 < top.0). omega (arith, g.starts t m, g.starts (above t) b, s.rising t (omega arith)))
         (eq-or-lt_of_le (omega arith));
     ascending = λ t l.
-        let m : t.0 < top.0 = omega arith in
+        let m : Under t top = omega arith in
         ⊎_elim (λ (e : t.0 + 1 ≡ top.0). omega (arith, g.words t m, least_top (above t) e, on.ascending t e))
         (λ (b : t.0 + 1 < top.0). omega (arith, g.words t m, g.words (above t) b, s.ascending t (omega arith)))
         (eq-or-lt_of_le (omega arith));
@@ -62,7 +62,7 @@ module _ {w v : List ℕ} {k : Lane} {top : Place} {x f : ℕ} (g : Grown w v k 
       at_bottom : 0 ≤ top.0 → (first v k bottom).0 ≡ 0
       at_bottom z =
           ⊎_elim (λ (e : 0 ≡ top.0). first-top bottom e ∙ on.bottom (sym e))
-          (λ (l : 0 < top.0). g.starts bottom l ∙ ap (λ (h : Held). h.0) (s.bottom (omega arith)))
+          (λ (l : Under bottom top). g.starts bottom l ∙ ap (λ (h : Held). h.0) (s.bottom (omega arith)))
           (eq-or-lt_of_le z)
 
   -- the top's run has every row from its first on
@@ -74,7 +74,7 @@ module _ {w v : List ℕ} {k : Lane} {top : Place} {x f : ℕ} (g : Grown w v k 
   }
 
   -- a row of a run below keeps its word, where the top's run starts above it
-  pub below_grown : {height : Place} {h : Held} {y : ℕ} (r : Rests w k height h y) → top.0 ≤ height.0 → r.place.0 < top.0 → h.0 < f
+  pub below_grown : {height : Place} {h : Held} {y : ℕ} (r : Rests w k height h y) → NotAbove top height → Under r.place top → h.0 < f
       → Rests v k (above top) h y
   below_grown {height} {h} r q l b =
       let t = r.place in

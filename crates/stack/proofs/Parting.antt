@@ -2,17 +2,17 @@
 use mathlib.Core.Path.{◌≡◌, sym}
 use mathlib.Core.Bool.{true, false}
 use mathlib.Core.List.{List}
-use Prim.Native.Nat.{ℕ, ◌+◌, ◌-◌, ◌<◌, ◌≤◌}
+use Prim.Native.Nat.{ℕ, ◌+◌, ◌-◌}
 use native.Mathlib.Omega.{arith}
 use borrow.Author.Tests.{ltb-true, ltb-false}
 use Rattle.layout.specs.declared.Place.{Place}
 use Rattle.layout.specs.declared.Lane.{Lane}
-use Rattle.layout.specs.Words.{word}
+use Rattle.layout.specs.Words.{Under, NotAbove, word}
 use Rattle.stack.specs.Private.{is_above, Parted}
 use Rattle.stack.proofs.Rises.{rises}
 
-pub parted : {w : List ℕ} {k : Lane} {height : Place} {x : ℕ} {r : Place} → r.0 ≤ height.0 → (r.0 < height.0 → true ≡ is_above w k x r.0)
-    → ((n : ℕ) → n + 1 ≡ r.0 → false ≡ is_above w k x n) → Parted w k height x r
+pub parted : {w : List ℕ} {k : Lane} {height : Place} {x : ℕ} {r : Place} → NotAbove r height → (Under r height → true ≡ is_above w k x r)
+    → ((n : ℕ) → n + 1 ≡ r.0 → false ≡ is_above w k x (record { 0 = n })) → Parted w k height x r
 parted {w} {k} {height} {x} {r} l here before = record {
   within = l;
   right = λ s.

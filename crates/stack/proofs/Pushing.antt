@@ -3,7 +3,6 @@ use mathlib.Core.Path.{◌≡◌, refl, ap, subst, ◌∙◌}
 use mathlib.Core.List.{List}
 use mathlib.Core.Logic.{⊎_elim, inl, inr}
 use Prim.Native.Nat.{ℕ, ◌+◌, ◌*◌, ◌-◌, ◌≤◌}
-use native.Mathlib.Nat.{eq-zero-or-pos}
 use native.Mathlib.Decide.{ℕ_discrete}
 use native.Mathlib.Omega.{arith}
 use lib.ListN.{get_or, set, length-set}
@@ -11,8 +10,9 @@ use lib.Seq.{get_or-set_same, get_or-set_other}
 use Rattle.layout.specs.declared.Held.{Held}
 use Rattle.layout.specs.declared.Place.{Place}
 use Rattle.layout.specs.declared.Lane.{Lane}
-use Rattle.layout.specs.Words.{Lower, after, above, base_of, word, least_word, Room}
+use Rattle.layout.specs.Words.{Lower, after, above, bottom, row₀, base_of, word, least_word, Room}
 use Rattle.layout.specs.Frames.{Within}
+use Rattle.layout.proofs.Order.{lower_or_not, under_or_not}
 use Rattle.layout.proofs.Written.{untouched, wrote, and_then}
 use Rattle.stack.specs.Entries.{Stacked, Rests, pushed, by_stack}
 use Rattle.stack.specs.Calls.{Pushed}
@@ -42,9 +42,9 @@ module _ {w v : List ℕ} {k : Lane} {height : Place} {rows : Held} {x : ℕ} {r
       raised o f = rw ((d.raises o f).0, (d.raises o f).1) (grows o)
 
       with_room : Room w (height.0 + 1) → P v r
-      with_room o = elim (eq-zero-or-pos height.0) [
-        | inl z ↦ raised o (λ t e q. omega (arith, ap (λ (u : Place). u.0) e))
-        | inr l ↦
+      with_room o = elim (under_or_not bottom height) [
+        | inr z ↦ raised o (λ t e q. omega (arith, ap (λ (u : Place). u.0) e))
+        | inl l ↦
             let t : Place = record { 0 = height.0 - 1 } in
             let e : above t ≡ height = last height (height.0 - 1) (omega arith) in
             elim (ℕ_discrete (least_word w k t) x) [
@@ -105,7 +105,7 @@ module _ {w v : List ℕ} {k : Lane} {height : Place} {rows : Held} {x : ℕ} {r
 
     -- a stack of no entries has no rows
     bare : height.0 ≡ 0 → rows.0 ≡ 0
-    bare e = elim (eq-zero-or-pos rows.0) [ inl z ↦ z | inr p ↦ absurd (omega (arith, s.some p)) ]
+    bare e = elim (lower_or_not row₀ rows) [ inl p ↦ absurd (omega (arith, s.some p)) | inr z ↦ omega arith ]
 
     module _ (rises : (t : Place) → above t ≡ height → least_word w k t ≤ x) where
       -- it is a stack of one row more

@@ -2,13 +2,13 @@
 use mathlib.Core.Path.{◌≡◌, refl, sym, ap, ◌∙◌}
 use mathlib.Core.List.{List}
 use mathlib.Core.Logic.{⊎_elim}
-use Prim.Native.Nat.{ℕ, ◌+◌, ◌<◌, ◌≤◌}
+use Prim.Native.Nat.{ℕ, ◌+◌}
 use native.Mathlib.Omega.{arith}
-use Rattle.laws.proofs.Tests.{lt_or_ge, neither_below}
 use Rattle.layout.specs.declared.Held.{Held}
 use Rattle.layout.specs.declared.Place.{Place}
 use Rattle.layout.specs.declared.Lane.{Lane}
-use Rattle.layout.specs.Words.{after, above, bottom, row₀, word, least_word, first, Room}
+use Rattle.layout.specs.Words.{Lower, NotHigher, Under, NotAbove, after, above, bottom, row₀, word, least_word, first, Room}
+use Rattle.layout.proofs.Order.{lower_or_not, under_or_not, under_through, one_place}
 use Rattle.stack.specs.Entries.{Stacked, Covers, Rests}
 use Rattle.stack.specs.Calls.{Advanced}
 use Rattle.stack.proofs.Rises.{rises}
@@ -19,20 +19,20 @@ covers_rests {w} {k} {height} {t} c = record { place = t; covers = c; same = ref
 
 module _ {w : List ℕ} {k : Lane} {rows : Held} {height : Place} (s : Stacked w k rows height) where
   -- the runs start at ever higher rows
-  pub first_rises : (a t : Place) → a.0 ≤ t.0 → t.0 < height.0 → (first w k a).0 ≤ (first w k t).0
+  pub first_rises : (a t : Place) → NotAbove a t → Under t height → NotHigher (first w k a) (first w k t)
   first_rises a t = rises {a = λ n. word w k n 5} (λ n l. omega (arith, s.rising (record { 0 = n }) l)) a.0 t.0
 
   -- of two runs with the same row, neither is below the other
-  not_below : (h : Held) (a b : Place) → Covers w k height a h → Covers w k height b h → a.0 < b.0 → ⊥
-  not_below h a b x y l = omega (arith, x.to (omega (arith, y.on)), first_rises (above a) b (omega arith) y.on, y.from)
+  not_below : (h : Held) (a b : Place) → Covers w k height a h → Covers w k height b h → Under a b → ⊥
+  not_below h a b x y l = omega (arith, x.to (under_through {t = b} (omega arith) y.on), first_rises (above a) b (omega arith) y.on, y.from)
 
   -- no two runs share a row
-  covers_unique : (h : Held) (a b : Place) → Covers w k height a h → Covers w k height b h → a.0 ≡ b.0
-  covers_unique h a b x y = neither_below (not_below h a b x y) (not_below h b a y x)
+  covers_unique : (h : Held) (a b : Place) → Covers w k height a h → Covers w k height b h → a ≡ b
+  covers_unique h a b x y = one_place (not_below h a b x y) (not_below h b a y x)
 
   -- the stack has one word for a row
   pub rests_unique : {h : Held} {x y : ℕ} → Rests w k height h x → Rests w k height h y → x ≡ y
-  rests_unique {h} a b = sym a.same ∙ ap (λ (n : ℕ). word w k n 4) (covers_unique h a.place b.place a.covers b.covers) ∙ b.same
+  rests_unique {h} a b = sym a.same ∙ ap (least_word w k) (covers_unique h a.place b.place a.covers b.covers) ∙ b.same
 
   -- the top's run has the last row
   pub top_rests : (t : Place) → above t ≡ height → (h : Held) → after h ≡ rows → Rests w k height h (least_word w k t)
@@ -42,7 +42,7 @@ module _ {w : List ℕ} {k : Lane} {rows : Held} {height : Place} (s : Stacked w
       covers_rests (record { on = omega arith; from = omega (arith, s.below t (omega arith)); to = λ l. absurd (omega arith) })
 
   -- the first run has the first row
-  pub first_covers : 0 < rows.0 → Covers w k height bottom row₀
+  pub first_covers : Lower row₀ rows → Covers w k height bottom row₀
   first_covers l =
       let e = ap (λ (g : Held). g.0) (s.bottom (s.some l)) in
       record { on = s.some l; from = omega (arith, e); to = λ m. omega (arith, s.rising bottom m) }
@@ -51,12 +51,12 @@ module _ {w : List ℕ} {k : Lane} {rows : Held} {height : Place} (s : Stacked w
   pub advance_covers : {t r : Place} {h : Held} → Room w height.0 → Covers w k height t h → Advanced w k height t (after h) r → Covers w k height r (after h)
   advance_covers {t} {r} {h} room c a =
       ⊎_elim
-      (λ (l : t.0 + 1 < height.0).
+      (λ (l : Under (above t) height).
       ⊎_elim
-      (λ (b : h.0 + 1 < (first w k (above t)).0). rw (a.stays (λ o n m. omega arith)) (record { on = c.on; from = omega (arith, c.from); to = λ n. b }))
-      (λ (b : (first w k (above t)).0 ≤ h.0 + 1).
+      (λ (b : Lower (after h) (first w k (above t))). rw (a.stays (λ o n m. omega arith)) (record { on = c.on; from = omega (arith, c.from); to = λ n. b }))
+      (λ (b : NotHigher (first w k (above t)) (after h)).
       rw (a.moves room l b) (record { on = l; from = b; to = λ n. omega (arith, c.to l, s.rising (above t) n) }))
-      (lt_or_ge (h.0 + 1) (first w k (above t)).0))
-      (λ (l : height.0 ≤ t.0 + 1).
+      (lower_or_not (after h) (first w k (above t))))
+      (λ (l : NotAbove height (above t)).
       rw (a.stays (λ o n m. omega arith)) (record { on = c.on; from = omega (arith, c.from); to = λ n. absurd (omega arith) }))
-      (lt_or_ge (t.0 + 1) height.0)
+      (under_or_not (above t) height)

@@ -4,7 +4,7 @@ use Rattle.std.specs.Prelude.{◌≡◌, Bool, true, false, List, ℕ, ◌+◌, 
 use Rattle.layout.specs.declared.Held.{Held}
 use Rattle.layout.specs.declared.Place.{Place}
 use Rattle.layout.specs.declared.Lane.{Lane}
-use Rattle.layout.specs.Words.{Lower, Under, above, bottom, row₀, base_of, least_word, first}
+use Rattle.layout.specs.Words.{Lower, NotHigher, Under, NotAbove, above, bottom, row₀, base_of, least_word, first}
 use Rattle.layout.specs.Frames.{Kind}
 use Rattle.layout.specs.Frames as Frames
 
@@ -14,9 +14,10 @@ Ascending w k height = (t : Place) → Under (above t) height → least_word w k
 
 -- the runs of the entries make up the rows
 pub record Stacked (w : List ℕ) (k : Lane) (rows : Held) (height : Place) : Type 0 where
+  -- no more entries than rows
   pub low : height.0 ≤ rows.0
-  pub some : 0 < rows.0 → 0 < height.0
-  pub bottom : 0 < height.0 → first w k bottom ≡ row₀
+  pub some : Lower row₀ rows → Under bottom height
+  pub bottom : Under bottom height → first w k bottom ≡ row₀
   pub below : (t : Place) → Under t height → Lower (first w k t) rows
   pub rising : (t : Place) → Under (above t) height → Lower (first w k t) (first w k (above t))
   pub ascending : Ascending w k height
@@ -24,7 +25,7 @@ pub record Stacked (w : List ℕ) (k : Lane) (rows : Held) (height : Place) : Ty
 -- row h is in the run of the entry at place t
 pub record Covers (w : List ℕ) (k : Lane) (height t : Place) (h : Held) : Type 0 where
   pub on : Under t height
-  pub from : (first w k t).0 ≤ h.0
+  pub from : NotHigher (first w k t) h
   pub to : Under (above t) height → Lower h (first w k (above t))
 
 -- x is the word that the stack has for row h
@@ -36,7 +37,7 @@ pub record Rests (w : List ℕ) (k : Lane) (height : Place) (h : Held) (x : ℕ)
 -- of the entries below a height, those below place t are at most x, and the others above it
 pub record Parts (w : List ℕ) (k : Lane) (height : Place) (x : ℕ) (t : Place) : Type 0 where
   pub stay : (u : Place) → Under u t → least_word w k u ≤ x
-  pub go : (u : Place) → t.0 ≤ u.0 → Under u height → x < least_word w k u
+  pub go : (u : Place) → NotAbove t u → Under u height → x < least_word w k u
 
 -- THE WORDS AFTER A POP: the entry at place t is the word x, with the run that it had
 abbrev pub lowered : List ℕ → Lane → Place → ℕ → List ℕ

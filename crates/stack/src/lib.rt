@@ -1,8 +1,8 @@
 // The stack of source document 000 in a lane: an entry for each run of rows that share a range minimum.
 #![tactic(auto)]
 
-ghost use Rattle.std.specs.Prelude.{◌≡◌, ◌+◌, ◌<◌};
-ghost use Rattle.layout.specs.Words.{Room};
+ghost use Rattle.std.specs.Prelude.{◌≡◌, ◌+◌};
+ghost use Rattle.layout.specs.Words.{Under, bottom, Room};
 ghost use Rattle.stack.specs.Calls.{Lowered, Pushed, Entered, Looked, Advanced};
 ghost use Rattle.stack.specs.Private.{is_above, Parted, starts_after, Located};
 
@@ -22,7 +22,7 @@ fn taken_over(area: &[u64], e: Extent, word: u64) -> Place
         LOOKS,
         |k: usize| -> bool
             requires { Room area.now (k + 1) }
-            ensures { result ≡ is_above area.entry.now lane word k }
+            ensures { result ≡ is_above area.entry.now lane word (record { 0 = k }) }
         { word < area[lane.least(Place(k))] },
     ))
 }
@@ -54,7 +54,7 @@ pub fn push(area: &mut [u64], e: Extent, word: u64) -> Place
     if !layout::has_room(area, e.height.0 + 1) {
         return e.height;
     }
-    if 0 < e.height.0 {
+    if Place(0) < e.height {
         if area[e.lane.least(Place(e.height.0 - 1))] == word {
             return e.height;
         }
@@ -91,7 +91,7 @@ pub fn advance(area: &[u64], e: Extent, place: Place, row: Held) -> Place
     if e.height <= next {
         return place;
     }
-    if (row.0 as u64) < area[e.lane.first(next)] {
+    if row < Held(area[e.lane.first(next)] as usize) {
         return place;
     }
     next
@@ -100,18 +100,17 @@ pub fn advance(area: &[u64], e: Extent, place: Place, row: Held) -> Place
 // The place whose run has a row: a predecessor search over the runs' first rows (source document 000, Theorem 3). It is the lowest place above which no run starts at the row or before it. Of mixed
 // values the lowest run is the longest, with about half of all rows, the next one with half of the others, and so on: so some looks from the bottom up come first.
 fn covering(area: &[u64], e: Extent, held: Held) -> Place
-    requires { (0 < e.height.0) × Room area.now e.height.0 }
+    requires { Under bottom e.height × Room area.now e.height.0 }
     ensures { Located area.now e.lane e.height held result }
 {
     let lane = e.lane;
-    let row = held.0 as u64;
     Place(halves::first_near_bottom(
         e.height.0 - 1,
         LOOKS,
         |k: usize| -> bool
             requires { Room area.now (k + 2) }
-            ensures { result ≡ starts_after area.entry.now lane row (k + 1) }
-        { row < area[lane.first(Place(k + 1))] },
+            ensures { result ≡ starts_after area.entry.now lane held (record { 0 = k + 1 }) }
+        { held < Held(area[lane.first(Place(k + 1))] as usize) },
     ))
 }
 

@@ -7,9 +7,8 @@ use native.Mathlib.Omega.{arith}
 use Rattle.history.specs.declared.Position.{Position}
 use Rattle.layout.specs.declared.Held.{Held}
 use Rattle.layout.specs.declared.Lane.{Lane}
-use Rattle.layout.specs.Words.{base_of}
 use Rattle.table.specs.Marks.{Rising, Live}
-use Rattle.table.proofs.Ordered.{ascending, one_row}
+use Rattle.table.proofs.Ordered.{one_row}
 
 module _ {w : List ℕ} {k : Lane} {rows : Held} {p : Position} {g : Held} (l : Live w k rows p g) where
   -- the row that is given is an active mark at the position
@@ -19,4 +18,4 @@ module _ {w : List ℕ} {k : Lane} {rows : Held} {p : Position} {g : Held} (l : 
   -- among rising positions there is no other
   pub only_row : Rising w k rows → (h : Held) → Live w k rows p h → Some g ≡ Some h
   only_row rising h m =
-      ap (λ (n : ℕ). Some (record { 0 = n })) (one_row w (base_of k) rows.0 (ascending w k rows rising) g.0 h.0 l.row m.row (omega (arith, l.mark, m.mark)))
+      ap Some (one_row w k rows rising g h l.row m.row (omega (arith, l.mark, m.mark)))

@@ -11,6 +11,7 @@ use Rattle.history.specs.declared.Position.{Position}
 use Rattle.layout.specs.declared.Held.{Held}
 use Rattle.layout.specs.declared.Lane.{Lane}
 use Rattle.layout.specs.Words.{Lower, after, word, position, head}
+use Rattle.layout.proofs.Order.{same_held}
 use Rattle.table.specs.Marks.{bucket_of, Chain, here, next, Rising, Linked, After, active_below, active_in}
 use Rattle.table.proofs.Chains.{raise, carry}
 use Rattle.table.proofs.Active.{own, active_below_same}
@@ -52,7 +53,7 @@ module _ (w v : List ℕ) (k : Lane) (rows capacity : Held) (p : Position) (s : 
   reached : (g : Held) → Lower g (after rows) → Chain v k g (after rows) (head v k (bucket_of (position v k g) capacity))
   reached g l =
       elim (ℕ_discrete g.0 rows.0) [
-        | yes e ↦ rw (place_new g e, s.head_new) (here {top = after rows} {g = rows} (omega arith) (omega arith))
+        | yes e ↦ rw (place_new g e, s.head_new) (here {top = after rows} {g = rows} (omega arith) (same_held (omega arith)))
         | no n ↦ rw (place_old g (omega arith)) (old_reached g (omega arith))
       ]
 

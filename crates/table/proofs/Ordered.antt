@@ -1,38 +1,27 @@
 -- Rows whose positions ascend: which of two rows comes first is told by their marks.
 use mathlib.Core.Path.{◌≡◌, ap}
 use mathlib.Core.List.{List}
-use Prim.Native.Nat.{ℕ, ◌+◌, ◌*◌, ◌/◌, ◌<◌, ◌≤◌}
-use native.Mathlib.Decide.{ℕ_discrete, dec_lt}
+use mathlib.Core.Logic.{inl, inr}
+use Prim.Native.Nat.{ℕ, ◌<◌, ◌≤◌}
+use native.Mathlib.Decide.{ℕ_discrete}
 use native.Mathlib.Omega.{arith}
-use lib.ListN.{get_or}
 use Rattle.layout.specs.declared.Held.{Held}
 use Rattle.layout.specs.declared.Lane.{Lane}
-use Rattle.layout.specs.Words.{base_of}
+use Rattle.layout.specs.Words.{Lower, NotHigher, word, mark_word}
+use Rattle.layout.proofs.Order.{lower_or_not, same_held}
 use Rattle.table.specs.Marks.{Rising}
 
--- the mark of row n in the lane whose words start at `base`
-abbrev pub mark_at : List ℕ → ℕ → ℕ → ℕ
-mark_at w base n = get_or w (base + 32 * n + 1) 0
-
--- the positions of its rows ascend
-abbrev pub Ascending : List ℕ → ℕ → ℕ → Type 0
-Ascending w base rows = (g h : ℕ) → g < h → h < rows → mark_at w base g / 2 < mark_at w base h / 2
-
--- rising positions ascend
-pub ascending : (w : List ℕ) (k : Lane) (rows : Held) → Rising w k rows → Ascending w (base_of k) rows.0
-ascending w k rows rising g h = rising (record { 0 = g }) (record { 0 = h })
-
-module _ (w : List ℕ) (base rows : ℕ) (up : Ascending w base rows) where
+module _ (w : List ℕ) (k : Lane) (rows : Held) (up : Rising w k rows) where
   -- a row whose mark is not after another's does not come after it
-  pub upto : (g h : ℕ) → g < rows → mark_at w base g ≤ mark_at w base h → g ≤ h
-  upto g h l m = elim (dec_lt h g) [ yes a ↦ absurd (let r = up h g a l in omega arith) | no a ↦ omega arith ]
+  pub not_after : (g h : Held) → Lower g rows → mark_word w k g ≤ mark_word w k h → NotHigher g h
+  not_after g h l m = elim (lower_or_not h g) [ inl a ↦ absurd (let r = up h g a l in omega arith) | inr a ↦ a ]
 
   -- a row whose mark is before another's comes before it
-  pub before : (g h : ℕ) → g < rows → mark_at w base g < mark_at w base h → g < h
+  pub before : (g h : Held) → Lower g rows → mark_word w k g < mark_word w k h → Lower g h
   before g h l m =
-      let n = upto g h l (omega arith) in
-      elim (ℕ_discrete g h) [ yes e ↦ absurd (let q = ap (mark_at w base) e in omega arith) | no d ↦ omega arith ]
+      let n = not_after g h l (omega arith) in
+      elim (ℕ_discrete g.0 h.0) [ yes e ↦ absurd (let q = ap (λ (i : ℕ). word w k i 1) e in omega arith) | no d ↦ omega arith ]
 
   -- rows with one mark are one row
-  pub one_row : (g h : ℕ) → g < rows → h < rows → mark_at w base g ≡ mark_at w base h → g ≡ h
-  one_row g h l m e = omega (arith, upto g h l (omega arith), upto h g m (omega arith))
+  pub one_row : (g h : Held) → Lower g rows → Lower h rows → mark_word w k g ≡ mark_word w k h → g ≡ h
+  one_row g h l m e = same_held (omega (arith, not_after g h l (omega arith), not_after h g m (omega arith)))

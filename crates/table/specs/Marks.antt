@@ -1,9 +1,9 @@
 -- What it is for the rows of a lane to be a table of marks: ascending positions, each row reached from its hash bucket.
-use Rattle.std.specs.Prelude.{◌≡◌, Bool, true, false, cond, List, [], ◌∷◌, ◌++◌, ℕ, zero, suc, ◌+◌, ◌*◌, ◌/◌, ◌%◌, ◌≤◌, eqb, set}
+use Rattle.std.specs.Prelude.{◌≡◌, Bool, true, false, cond, List, [], ◌∷◌, ◌++◌, ℕ, zero, suc, ◌+◌, ◌*◌, ◌/◌, ◌%◌, eqb, set}
 use Rattle.history.specs.declared.Position.{Position}
 use Rattle.layout.specs.declared.Held.{Held}
 use Rattle.layout.specs.declared.Lane.{Lane}
-use Rattle.layout.specs.Words.{Earlier, Lower, base_of, mark_word, position, link, head, Room}
+use Rattle.layout.specs.Words.{Earlier, Lower, NotHigher, base_of, mark_word, position, link, head, Room}
 use Rattle.layout.specs.Frames.{Kind}
 use Rattle.layout.specs.Frames as Frames
 
@@ -13,7 +13,7 @@ bucket_of p c = (p.0 + p.0 / 2048) * 2654435769 % 4294967296 * c.0 / 4294967296
 
 -- row h is on the chain that starts at row g, all of whose rows are below `top`
 pub data Chain (w : List ℕ) (k : Lane) (h : Held) : Held → Held → Type 0 where
-  here : {top g : Held} → Lower g top → g.0 ≡ h.0 → Chain w k h top g
+  here : {top g : Held} → Lower g top → g ≡ h → Chain w k h top g
   next : {top g : Held} → Lower g top → Chain w k h g (link w k g) → Chain w k h top g
 
 -- the positions of the rows ascend
@@ -23,7 +23,7 @@ Rising w k rows = (g h : Held) → Lower g h → Lower h rows → Earlier (posit
 -- the rows of lane k, of which there is room for so many, are a table
 pub record Linked (w : List ℕ) (k : Lane) (rows capacity : Held) : Type 0 where
   pub room : Room w capacity.0
-  pub full : rows.0 ≤ capacity.0
+  pub full : NotHigher rows capacity
   pub rising : Rising w k rows
   pub reached : (h : Held) → Lower h rows → Chain w k h rows (head w k (bucket_of (position w k h) capacity))
 

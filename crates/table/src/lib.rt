@@ -3,7 +3,7 @@
 #![tactic(auto)]
 
 ghost use Rattle.std.specs.Prelude.{◌≡◌, ◌+◌, ◌*◌, ◌<◌, ◌≤◌};
-ghost use Rattle.layout.specs.Words.{Room};
+ghost use Rattle.layout.specs.Words.{Lower, row₀, Room};
 ghost use Rattle.table.specs.Marks.{bucket_of};
 ghost use Rattle.table.specs.Calls.{Sought, Inserted, Released};
 ghost use Rattle.table.specs.Private.{is_after, Halved, Walked};
@@ -17,7 +17,7 @@ const LINKS: usize = 3;
 // The hash bucket of a position among as many as a lane has room for rows. Positions come at regular distances when a player plays in time; the multiplication, modulo 2^32, spreads
 // them, and the sum those at just the distances that the multiplication would crowd.
 fn bucket(p: Position, capacity: Held) -> usize
-    requires { (0 < capacity.0) × (capacity.0 ≤ 8207) }
+    requires { Lower row₀ capacity × (capacity.0 ≤ 8207) }
     ensures { (result < capacity.0) × (result ≡ bucket_of p capacity) }
 {
     let q = p.0;
@@ -34,7 +34,7 @@ fn active_mark(p: Position) -> u64
 
 // The row of the active mark at a position by halves: the rows are in the order of their positions, and it is the one before the first whose mark is after the one sought.
 fn by_halves(area: &[u64], lane: Lane, rows: Held, p: Position) -> Option<Held>
-    requires { (0 < rows.0) × Room area.now rows.0 }
+    requires { Lower row₀ rows × Room area.now rows.0 }
     ensures { Halved area.now lane rows p result }
 {
     let sought = active_mark(p);
@@ -42,7 +42,7 @@ fn by_halves(area: &[u64], lane: Lane, rows: Held, p: Position) -> Option<Held>
         rows.0,
         |n: usize| -> bool
             requires { Room area.now (n + 1) }
-            ensures { result ≡ is_after area.entry.now lane sought n }
+            ensures { result ≡ is_after area.entry.now lane sought (record { 0 = n }) }
         { sought < area[lane.mark(Held(n))] },
     );
     let held = Held(behind.saturating_sub(1));
@@ -55,7 +55,7 @@ fn by_halves(area: &[u64], lane: Lane, rows: Held, p: Position) -> Option<Held>
 // Further along the chain that has a row: some links, and then by halves. A chain leads to ever earlier rows, and so to ever earlier positions. It stays a call: of ten searches nine end before.
 #[inline(never)]
 fn further(area: &[u64], lane: Lane, rows: Held, p: Position, from: Held) -> Option<Held>
-    requires { (from.0 < rows.0) × Room area.now rows.0 }
+    requires { Lower from rows × Room area.now rows.0 }
     ensures { Walked area.now lane rows p from result }
 {
     let sought = active_mark(p);

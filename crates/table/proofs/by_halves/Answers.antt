@@ -1,7 +1,6 @@
 -- `table::by_halves` meets its contract: where the row that is found has another mark than the one sought, no row has that.
 use Rattle.std.proofs.Common.{arith}
 use Rattle.table.specs.Marks.{Live}
-use Rattle.table.proofs.Ordered.{ascending}
 use Rattle.table.proofs.Answers.{own_row, only_row}
 use Rattle.table.proofs.Halving.{missed}
 use Rattle.table.proofs.by_halves.Goals as goal
@@ -18,5 +17,5 @@ returns c =
     let s = c.first_where-behind.ensures in
     record {
       sound = λ h e. cc;
-      complete = λ rising h l. absurd (missed a.area.now a.lane s.here s.before s.within (λ e. c.if-area-mark.false (rw (c.mark.ensures, c.saturating_sub.ensures) e)) (ascending a.area.now a.lane a.rows rising) h.0 l.row (rw c.active_mark-sought.ensures l.mark));
+      complete = λ rising h l. absurd (missed a.area.now a.lane {rows = a.rows} s.here s.before s.within (λ e. c.if-area-mark.false (rw (c.mark.ensures, c.saturating_sub.ensures) e)) rising h l.row (rw c.active_mark-sought.ensures l.mark));
     }

@@ -51,7 +51,7 @@ returns-then-mark-sought-2 c =
     }
 
 pub loop-preserved : goal.loop-preserved
-loop-preserved c = passed c.loop.invariant _ (rw c.link.ensures) (older (goal.at.loop-preserved c).Else-le) (λ e. c.if-mark-sought.false (rw c.mark.ensures e))
+loop-preserved c = passed c.loop.invariant (record { 0 = get_or c.args.area.now c.link.result 0 }) (rw c.link.ensures) (older (goal.at.loop-preserved c).Else-le) (λ e. c.if-mark-sought.false (rw c.mark.ensures e))
 
 pub returns : goal.returns
 returns c = let e = c.by_halves.ensures in record { sound = e.sound; complete = λ rising h l d. e.complete rising h l }

@@ -4,4 +4,4 @@ use Rattle.table.proofs.Walking.{Walking}
 use Rattle.table.proofs.further.Given as goal
 
 abbrev pub invariant-loop : goal.invariant-loop
-invariant-loop l = Walking l.area l.lane l.sought l.initial.top.0 l.top.0
+invariant-loop l = Walking l.area l.lane l.sought l.initial.top l.top
