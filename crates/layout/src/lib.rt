@@ -136,7 +136,7 @@ impl Role {
     }
 
     // The number of the lane that has it.
-    pub fn lane(self) -> usize
+    fn lane(self) -> usize
         ensures { (result ≡ header_of self) × (result ≤ 24) }
     {
         self.word(0)
@@ -150,7 +150,7 @@ impl Role {
     }
 
     // How many rows there is room for.
-    pub fn capacity(self) -> usize
+    fn capacity(self) -> usize
         ensures { (result ≡ header_of self + 2) × (result < 32) }
     {
         self.word(2)

@@ -79,6 +79,7 @@ value_done w u m e word r l own packs back q = record {
   inside = done_then
       (⊎_elim (λ (b : Room w e.height.0). within_inside (lowered_within q) b.few) (λ (n : Room w e.height.0 → ⊥). nothing_done (q.idle n).0) (room_or_not w e.height.0))
       (header_inside (wrote_header u 3 r.0 (omega arith)));
+  short = λ b. absurd (omega arith);
   holds = λ h first k x is b.
       valued_holds h first w u x r k l b (subst Faithful is (ap unpacked (sym packs) ∙ back))
       (subst (λ (y : ℕ). Lowered w u (extent_of w Active).lane (extent_of w Active).height y r) (packs ∙ ap packed is)
@@ -261,6 +262,7 @@ mark_done w u x v active word p m l t packs back a s =
     let i = turned_inside t in
     record {
       inside = done_then i (done_then (joined_inside a) (shared_inside s));
+      short = λ b. absurd (omega arith);
       holds = λ h first y k unmarked count free long here is.
           joined_holds h first w active p y k unmarked count free long l here (ready h first w active p y k unmarked count free long l here t) i.long
           a.appended is packs back (subst (λ (z : List ℕ). Shared z v) a.done s);

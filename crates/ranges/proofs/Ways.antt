@@ -47,6 +47,7 @@ module _ {w : List ℕ} {e : Extent} {p : Position} {found : Option Held} (read 
   strikes_nothing q = record {
     found = found;
     sought = record {
+      none = λ n. q;
       sound = λ h s. both (sym s ∙ q);
       complete = λ t h l. let own = read.own (omega (arith, t.room.wide)) in (rw own at sought).complete t h l;
     };

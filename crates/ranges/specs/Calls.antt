@@ -26,15 +26,19 @@ pub record Opened (w v : List ℕ) : Type 0 where
   pub short : length w < 576 → v ≡ w
   pub holds : 576 ≤ length w → Holds (opening (length w)).history w v
 
--- a value comes, at the position that m stands at
+-- a value comes, at the position that m stands at; with fewer than 32 words nothing is done. What is written in words that hold no history is the program's choice, and
+-- `inside` is what every choice has in common
 pub record Valued (w v : List ℕ) (m : Minimum) : Type 0 where
   pub inside : Inside w v
+  pub short : length w < 32 → v ≡ w
   pub holds : (h : History) (first : List ℕ) → Holds h first w → (x : ℤ) → m ≡ stands_at x (next (present_of h)) → length h.values < 4294967295
       → Holds (accept h (Value x)).history first v
 
--- a mark joins the others, of which so many are active, at position p with the minimum m
+-- a mark joins the others, of which so many are active, at position p with the minimum m; with fewer than 32 words nothing is done. What is written in words that hold no history
+-- is the program's choice, and `inside` is what every choice has in common
 pub record Marked (w v : List ℕ) (active : ℕ) (p : Position) (m : Minimum) : Type 0 where
   pub inside : Inside w v
+  pub short : length w < 32 → v ≡ w
   pub holds : (h : History) (first : List ℕ) → Sound h → Holds h first w → h.standing ≡ Unmarked → length h.active ≡ active → active < h.limit → length w ≡ h.words
       → p ≡ present_of h → m ≡ stands_at (last_of h.values) p → Holds (accept h Mark).history first v
 
@@ -46,7 +50,8 @@ MarkedAt w p = (role : Role) × (g : Held) × Live w (extent_of w role).lane (ex
 abbrev pub EntryOf : List ℕ → Minimum → Type 0
 EntryOf w m = (role : Role) × (t : Place) × Under t (extent_of w role).height × (m ≡ unpacked (least_word w (extent_of w role).lane t))
 
--- the range minimum of the active mark at position p is looked up. Of any words, where one is shown there is an active mark at p, and what is shown is an entry of a stack
+-- the range minimum of the active mark at position p is looked up. What is shown of words that hold no history is the program's choice, and `live` and `shown` are what every choice
+-- has in common: there is an active mark at p, and what is shown is an entry of a stack
 pub record LookedUp (w : List ℕ) (p : Position) (r : Option Minimum) : Type 0 where
   pub live : (m : Minimum) → r ≡ Some m → MarkedAt w p
   pub shown : (m : Minimum) → r ≡ Some m → EntryOf w m
