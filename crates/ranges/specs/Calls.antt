@@ -57,7 +57,8 @@ pub record LookedUp (w : List ℕ) (p : Position) (r : Option Minimum) : Type 0 
   pub shown : (m : Minimum) → r ≡ Some m → EntryOf w m
   pub holds : (h : History) (first : List ℕ) → Holds h first w → r ≡ cond (among p h.active) (Some (minimum h.values p)) None
 
--- the active mark at position p is closed, if there is one. Of any words, where none is found nothing is done
+-- the active mark at position p is closed, if there is one; where none is found nothing is done. Which row's mark is closed in words that hold no history is the program's choice, and `inside`,
+-- `none` and `live` are what every choice has in common
 pub record Closed (w v : List ℕ) (p : Position) (r : Bool) : Type 0 where
   pub inside : Inside w v
   pub none : r ≡ false → v ≡ w
