@@ -12,7 +12,7 @@ use history::Position;
 use layout::{Extent, Held, Lane};
 
 // The links that a walk along a chain follows at most. What lies further is found by halves.
-const LINKS: usize = 3;
+const LINKS: usize = 4;
 
 // The hash bucket of a position among as many as a lane has room for rows. Positions come at regular distances when a player plays in time; the multiplication, modulo 2^32, spreads
 // them, and the sum those at just the distances that the multiplication would crowd.
@@ -52,7 +52,7 @@ fn by_halves(area: &[u64], lane: Lane, rows: Held, p: Position) -> Option<Held>
     None
 }
 
-// Further along the chain that has a row: some links, and then by halves. A chain leads to ever earlier rows, and so to ever earlier positions. It stays a call: of ten searches nine end before.
+// Further along the chain that has a row: some links, and then by halves. A chain leads to ever earlier rows, and so to ever earlier positions. It stays a call: most searches end before it.
 #[inline(never)]
 fn further(area: &[u64], lane: Lane, rows: Held, p: Position, from: Held) -> Option<Held>
     requires { Lower from rows × Room area.now rows.0 }
