@@ -8,7 +8,7 @@ ghost use Rattle.stack.specs.Private.{is_above, Parted, starts_after, Located};
 
 use layout::{Extent, Held, Place};
 
-// The entries that a value looks at one by one, from the top down. What lies below them is searched by halves.
+// How many entries are looked at one by one: from the top down for a value, and from the bottom up for a row's run. What lies behind them is searched by halves.
 const LOOKS: usize = 5;
 
 // The lowest of a stack's places whose entry is above a word, or its height where none is: some looks from the top down, and then by halves (source document 000, Theorem 3).
@@ -97,7 +97,7 @@ pub fn advance(area: &[u64], e: Extent, place: Place, row: Held) -> Place
     next
 }
 
-// The place whose run has a row: a predecessor search over the runs' first rows (source document 000, Theorem 3). It is the lowest place above which no run starts at the row or before it. Of mixed
+// The place whose run has a row: a predecessor search over the runs' first rows (source document 000, Theorem 3). It is the highest place whose run starts at the row or before it. Of mixed
 // values the lowest run is the longest, with about half of all rows, the next one with half of the others, and so on: so some looks from the bottom up come first.
 fn covering(area: &[u64], e: Extent, held: Held) -> Place
     requires { Under bottom e.height × Room area.now e.height.0 }
