@@ -13,7 +13,7 @@
  *     filkotar_rough           120               72                                  xmm0 xmm1 xmm2 xmm3 xmm4
  *     filkotar_search          96                48                                  xmm0 xmm1 xmm2 xmm3 xmm4
  *     filkotar_window_open     8                 0                                   none
- *     filkotar_window_value    48                0                                   none
+ *     filkotar_window_value    40                0                                   none
  *
  * Those below the stack pointer are in the red zone of the calling convention: where an interrupt handler runs on the same stack, it has to leave these
  * as they are.
