@@ -25,7 +25,7 @@ fn first_between<F: Fn(usize) -> bool>(from: usize, to: usize, test: F) -> usize
     low
 }
 
-// The first of so many numbers of which a test holds, or how many there are.
+// The first of so many numbers of which a test holds, where it holds of all from there on, or how many there are: by halves.
 pub fn first_where<F: Fn(usize) -> bool>(count: usize, test: F) -> usize
     requires few { count < 9223372036854775808 }
     requires asked { (k : ℕ) → k < count → F.pre test k }

@@ -5,7 +5,7 @@ use mathlib.Core.List.{List}
 use mathlib.Core.Logic.{inl, inr, ⊎_elim}
 use Rattle.std.specs.Prelude.{Option, None, Some}
 use Rattle.std.proofs.Common.{◌++◌, replicate, take, drop}
-use Rattle.std.proofs.lemmas.List.{length-take-le}
+use Rattle.std.proofs.lemmas.List.{length-take-le, set-get_or}
 use Rattle.std.proofs.lemmas.Grind.{common_steps}
 use native.Mathlib.Decide.{dec_lt}
 use Prim.Native.Nat.{ℕ, ◌<◌, ◌≤◌, min}
@@ -80,6 +80,9 @@ value_done w u m e word r l own packs back q = record {
       (⊎_elim (λ (b : Room w e.height.0). within_inside (lowered_within q) b.few) (λ (n : Room w e.height.0 → ⊥). nothing_done (q.idle n).0) (room_or_not w e.height.0))
       (header_inside (wrote_header u 3 r.0 (omega arith)));
   short = λ b. absurd (omega arith);
+  unfit = λ n.
+      let i = q.idle (λ o. n (subst (λ (x : Extent). Room w x.height.0) own o)) in
+      (λ j. set (i.0 j) 3 (i.1 j).0) ∙ ap (λ (x : Extent). set w 3 x.height.0) own ∙ set-get_or w 3 0;
   holds = λ h first k x is b.
       valued_holds h first w u x r k l b (subst Faithful is (ap unpacked (sym packs) ∙ back))
       (subst (λ (y : ℕ). Lowered w u (extent_of w Active).lane (extent_of w Active).height y r) (packs ∙ ap packed is)

@@ -10,7 +10,8 @@ use Rattle.history.specs.Sound.{Sound}
 use Rattle.layout.specs.declared.Held.{Held}
 use Rattle.layout.specs.declared.Place.{Place}
 use Rattle.layout.specs.declared.Role.{Role}
-use Rattle.layout.specs.Words.{Under, extent_of, least_word}
+use Rattle.layout.specs.declared.Role.TheVariants.{Active}
+use Rattle.layout.specs.Words.{Under, extent_of, least_word, Room}
 use Rattle.table.specs.Marks.{Live}
 use Rattle.packing.specs.Packing.{unpacked}
 use Rattle.ranges.specs.Holding.{Holds}
@@ -26,11 +27,12 @@ pub record Opened (w v : List ℕ) : Type 0 where
   pub short : length w < 576 → v ≡ w
   pub holds : 576 ≤ length w → Holds (opening (length w)).history w v
 
--- a value comes, at the position that m stands at; with fewer than 32 words nothing is done. What is written in words that hold no history is the program's choice, and
--- `inside` is what every choice has in common
+-- a value comes, at the position that m stands at; with fewer than 32 words, or a header whose active lane's stack does not fit the words, nothing is done. What is written in other words
+-- that hold no history is the program's choice, and `inside` is what every choice has in common
 pub record Valued (w v : List ℕ) (m : Minimum) : Type 0 where
   pub inside : Inside w v
   pub short : length w < 32 → v ≡ w
+  pub unfit : (Room w (extent_of w Active).height.0 → ⊥) → v ≡ w
   pub holds : (h : History) (first : List ℕ) → Holds h first w → (x : ℤ) → m ≡ stands_at x (next (present_of h)) → length h.values < 4294967295
       → Holds (accept h (Value x)).history first v
 

@@ -145,7 +145,7 @@ pub record Turned (w v : List ℕ) (active : ℕ) (p : Position) : Type 0 where
   pub done : Turns w active → v ≡ puts (turning w active p) w
   pub idle : (Turns w active → ⊥) → v ≡ w
 
--- `merge`: two rows, if there is a younger lane, and the end if none is left
+-- `share`: two rows, one after the other, and the end if none is left
 pub record Share (w v : List ℕ) : Type 0 where
   pub one : List ℕ
   pub two : List ℕ
@@ -153,6 +153,7 @@ pub record Share (w v : List ℕ) : Type 0 where
   pub second : Merged one two
   pub last : Finished two v
 
+-- `merge`: that, if there is a younger lane; else nothing
 pub record Shared (w v : List ℕ) : Type 0 where
   pub idle : NotHigher (extent_of w Younger).rows row₀ → v ≡ w
   pub done : Lower row₀ (extent_of w Younger).rows → Share w v

@@ -1,6 +1,6 @@
 // The marks that the lent words hold, each with its range minimum. This is all that the engine knows of the words: they are opened, a value comes, a mark is appended, a mark
 // is closed, a mark is looked up. No call does more than a fixed number of steps, but for searches by halves: source document 000, Lemma 7 and Theorem 3, "in real time".
-// What is on the way of each call is inlined, here and in `table` and `stack`; where a way seldom goes there is a call, `table::further` and `share` (docs/DECISIONS.md, 90).
+// What is on the way of most calls is inlined, here and in `table` and `stack`; `table::further` and `share` stay calls (docs/DECISIONS.md, 90).
 #![tactic(auto)]
 
 ghost use Rattle.std.specs.Prelude.{◌≡◌, ◌<◌, ◌≤◌, length};
