@@ -1,4 +1,5 @@
 pub mod Replies
+pub mod Sessions
 pub mod Windows
 pub mod Takes
 pub mod Readings

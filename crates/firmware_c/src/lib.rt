@@ -3,12 +3,55 @@
 #![tactic(auto)]
 
 ghost use Rattle.std.specs.Prelude.{◌≡◌};
+ghost use Rattle.history.specs.declared.Command.TheVariants.{Value, Mark, Query, Close};
 ghost use Rattle.gain.specs.Gains.{gain_of};
-ghost use Rattle.firmware.specs.Windows.{OpensInNumbers, DoesInNumbers};
+ghost use Rattle.firmware.specs.Sessions as Sessions;
+ghost use Rattle.firmware.specs.Windows as Windows;
 ghost use Rattle.firmware.specs.Takes.{BuildsInNumbers, SearchesInNumbers};
 ghost use Rattle.firmware.specs.Readings.{ReadsInNumbers};
 
-use firmware::{FoundNumbers, ReadingNumbers, WindowNumbers, WindowOutcome};
+use firmware::{
+    AnswerNumbers, FoundNumbers, ReadingNumbers, SessionNumbers, WindowNumbers, WindowOutcome,
+};
+
+#[unsafe(no_mangle)]
+pub extern "C" fn filkotar_open(area: &mut [u64]) -> AnswerNumbers
+    ensures { Sessions.OpensInNumbers area.old area.new result }
+{
+    firmware::filkotar_open(area)
+}
+
+#[unsafe(no_mangle)]
+pub extern "C" fn filkotar_value(s: SessionNumbers, area: &mut [u64], v: i32) -> AnswerNumbers
+    ensures { Sessions.DoesInNumbers s (Value v) area.old area.new result }
+{
+    firmware::filkotar_value(s, area, v)
+}
+
+#[unsafe(no_mangle)]
+pub extern "C" fn filkotar_mark(s: SessionNumbers, area: &mut [u64]) -> AnswerNumbers
+    ensures { Sessions.DoesInNumbers s Mark area.old area.new result }
+{
+    firmware::filkotar_mark(s, area)
+}
+
+#[unsafe(no_mangle)]
+pub extern "C" fn filkotar_query(s: SessionNumbers, area: &[u64], position: u32) -> AnswerNumbers
+    ensures { Sessions.DoesInNumbers s (Query (record { 0 = position })) area.now area.now result }
+{
+    firmware::filkotar_query(s, area, position)
+}
+
+#[unsafe(no_mangle)]
+pub extern "C" fn filkotar_close(
+    s: SessionNumbers,
+    area: &mut [u64],
+    position: u32,
+) -> AnswerNumbers
+    ensures { Sessions.DoesInNumbers s (Close (record { 0 = position })) area.old area.new result }
+{
+    firmware::filkotar_close(s, area, position)
+}
 
 #[unsafe(no_mangle)]
 pub extern "C" fn filkotar_gain(v: i32) -> u16
@@ -19,14 +62,14 @@ pub extern "C" fn filkotar_gain(v: i32) -> u16
 
 #[unsafe(no_mangle)]
 pub extern "C" fn filkotar_window_open(area: &mut [u64], width: usize) -> WindowOutcome
-    ensures { OpensInNumbers width area.old area.new result }
+    ensures { Windows.OpensInNumbers width area.old area.new result }
 {
     firmware::filkotar_window_open(area, width)
 }
 
 #[unsafe(no_mangle)]
 pub extern "C" fn filkotar_window_value(s: WindowNumbers, area: &mut [u64], v: i32) -> WindowOutcome
-    ensures { DoesInNumbers s v area.old area.new result }
+    ensures { Windows.DoesInNumbers s v area.old area.new result }
 {
     firmware::filkotar_window_value(s, area, v)
 }
