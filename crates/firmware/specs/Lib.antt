@@ -1,5 +1,6 @@
 pub mod Replies
 pub mod Sessions
+pub mod Demands
 pub mod Windows
 pub mod Takes
 pub mod Readings
