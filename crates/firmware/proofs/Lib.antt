@@ -1,0 +1,4 @@
+pub mod Numbers
+pub mod Theorem
+pub mod Tied
+pub mod Functions
