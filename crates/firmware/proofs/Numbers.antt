@@ -18,7 +18,7 @@ use Rattle.engine.specs.Answers.{Answer}
 use Rattle.engine.specs.Promises.{Settled}
 use Rattle.engine.proofs.Settling.{settled_refused, any_acceptance}
 use Rattle.firmware.specs.declared.sessions.SessionNumbers.{SessionNumbers}
-use Rattle.firmware.specs.Sessions.{standing_number, standing_from, session_from, numbers_of, given_if_refused, numbers_after}
+use Rattle.firmware.specs.Sessions.{standing_number, standing_from, session_from, numbers_of, unless_refused, numbers_after}
 
 standing_back : (k : Standing) → standing_from (standing_number k) ≡ k
 standing_back Nothing = refl
@@ -43,11 +43,11 @@ number_back n = elim (ℕ_discrete n 0) [
 ]
 
 -- after an acceptance the numbers are the session's, and after a refusal those that were handed in
-pub accepted_numbers : (s : SessionNumbers) (t : Session) (r : Reply) → (told r).number ≡ 0 → given_if_refused s t r ≡ numbers_of t
+pub accepted_numbers : (s : SessionNumbers) (t : Session) (r : Reply) → (told r).number ≡ 0 → unless_refused s t r ≡ numbers_of t
 accepted_numbers s t (Ok shown) z = refl
 accepted_numbers s t (Err why) z = absurd (some_number why z)
 
-pub refused_numbers : (s : SessionNumbers) (t : Session) (r : Reply) → ((told r).number ≡ 0 → ⊥) → given_if_refused s t r ≡ s
+pub refused_numbers : (s : SessionNumbers) (t : Session) (r : Reply) → ((told r).number ≡ 0 → ⊥) → unless_refused s t r ≡ s
 refused_numbers s t (Ok None) z = absurd (z refl)
 refused_numbers s t (Ok (Some m)) z = absurd (z refl)
 refused_numbers s t (Err why) z = refl
@@ -60,7 +60,7 @@ query_keeps {i} {s} {before} {after} {t} {a} q = elim (ℕ_discrete a.number 0) 
 ]
 
 -- THE NUMBERS AFTER A CALL, of a session that stands for itself: they are those of the session that the engine returned
-after_session : {s : Session} {before after : List ℕ} {t : Session} (c : Command) (r : Reply) → Settled c s before after t (told r) → given_if_refused (numbers_of s) t r ≡ numbers_of t
+after_session : {s : Session} {before after : List ℕ} {t : Session} (c : Command) (r : Reply) → Settled c s before after t (told r) → unless_refused (numbers_of s) t r ≡ numbers_of t
 after_session {s} {before} {after} {t} c r q = elim (ℕ_discrete (told r).number 0) [
   | yes z ↦ accepted_numbers (numbers_of s) t r z
   | no z ↦ refused_numbers (numbers_of s) t r z ∙ ap numbers_of (sym (settled_refused q z).1)

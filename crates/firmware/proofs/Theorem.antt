@@ -2,11 +2,15 @@
 -- the numbers tell; so what the engine's demand 3 says of these holds in numbers.
 use mathlib.Core.Path.{◌≡◌, refl, sym, ap, ◌∙◌}
 use mathlib.Core.List.{List, [], ◌∷◌}
-use Rattle.std.specs.Prelude.{None, Some}
-use Prim.Native.Nat.{ℕ}
+use Rattle.std.specs.Prelude.{None, Some, cond, eqb}
+use Prim.Native.Nat.{ℕ, min}
+use native.Mathlib.Decide.{ℕ_discrete}
 use lib.ListN.{length}
+use borrow.Author.Tests.{eq-eqb, ne_eqb}
 use Rattle.history.specs.declared.Position.{Position}
 use Rattle.history.specs.Minimum.{Minimum}
+use Rattle.history.specs.declared.Standing.{Standing}
+use Rattle.history.specs.declared.Standing.TheVariants.{Closed}
 use Rattle.history.specs.declared.Session.{Session}
 use Rattle.history.specs.declared.Command.{Command}
 use Rattle.history.specs.declared.Command.TheVariants.{Value, Mark, Query, Close}
@@ -22,8 +26,8 @@ use Rattle.engine.proofs.Theorem as engine
 use Rattle.firmware.specs.declared.sessions.SessionNumbers.{SessionNumbers}
 use Rattle.firmware.specs.declared.sessions.AnswerNumbers.{AnswerNumbers}
 use Rattle.firmware.specs.Replies.{shown_of}
-use Rattle.firmware.specs.Sessions.{standing_number, session_from, numbers_of, in_numbers, numbers_after, OpensInNumbers, DoesInNumbers}
-use Rattle.firmware.specs.Demands.{OpeningSays, CommandSays, session, plainly, AnyOpening, AnyRefusal, AnyAcceptance, Demand1InC, told_of, told_numbers, minimum_told, model, Answered, Meets, Demand3InC}
+use Rattle.firmware.specs.Sessions.{standing_number, standing_from, session_from, numbers_of, in_numbers, numbers_after, told_numbers, OpensInNumbers, DoesInNumbers}
+use Rattle.firmware.specs.Demands.{OpeningSays, CommandSays, session_with, plainly, AnyOpening, AnyRefusal, AnyAcceptance, AnyCommand, Demand1InC, told_of, minimum_told, model, Answered, Meets, Demand3InC}
 use Rattle.firmware.proofs.Numbers.{session_back, number_back, accepted_numbers, refused_numbers, after_numbers}
 
 -- the engine's call that a call in numbers is
@@ -95,25 +99,35 @@ module _ (s : SessionNumbers) (lent left : List ℕ) (r : AnswerNumbers) where
       let t = w.answer.session in
       let x = any_acceptance (Value v) (session_from s) lent left t (told w.answer.reply) w.does.settled y in
       let k = accepted_numbers s t w.answer.reply y in
-      (t.active, w.numbers ∙ (λ i. in_numbers (k i) (told w.answer.reply)) ∙ plain y x.5 (λ i. session (x.0 i) (x.1 i) t.active (x.2 i) (x.3 i) (standing_number (x.4 i))))
+      (t.active, w.numbers ∙ (λ i. in_numbers (k i) (told w.answer.reply)) ∙ plain y x.5 (λ i. session_with (x.0 i) (x.1 i) t.active (x.2 i) (x.3 i) (standing_number (x.4 i))))
   accepted_in_c Mark w z =
       let y = sym (number_in_c Mark w) ∙ z in
       let t = w.answer.session in
       let x = any_acceptance Mark (session_from s) lent left t (told w.answer.reply) w.does.settled y in
       let k = accepted_numbers s t w.answer.reply y in
-      (t.active, w.numbers ∙ (λ i. in_numbers (k i) (told w.answer.reply)) ∙ plain y x.5 (λ i. session (x.0 i) (x.1 i) t.active (x.2 i).0 (x.3 i) (standing_number (x.4 i))))
+      (t.active, w.numbers ∙ (λ i. in_numbers (k i) (told w.answer.reply)) ∙ plain y x.5 (λ i. session_with (x.0 i) (x.1 i) t.active (x.2 i).0 (x.3 i) (standing_number (x.4 i))))
   accepted_in_c (Query i) w z = (ap (λ (x : AnswerNumbers). x.session) w.numbers, query_reads_only w.does.settled)
   accepted_in_c (Close i) w z =
       let y = sym (number_in_c (Close i) w) ∙ z in
       let t = w.answer.session in
       let x = any_acceptance (Close i) (session_from s) lent left t (told w.answer.reply) w.does.settled y in
-      let k = accepted_numbers s t w.answer.reply y in (
-        t.active,
-        standing_number t.standing,
-        w.numbers ∙ (λ j. in_numbers (k j) (told w.answer.reply)) ∙ plain y x.4 (λ j. session (x.0 j) (x.1 j) t.active (x.2 j).0 (x.3 j) (standing_number t.standing)),
-        (λ e. ap standing_number (x.5 e)),
-        (λ e. ap standing_number (x.6 e) ∙ number_back s.standing),
-      )
+      let k = accepted_numbers s t w.answer.reply y in
+      (t.active, w.numbers ∙ (λ j. in_numbers (k j) (told w.answer.reply)) ∙ plain y x.4 (λ j. session_with (x.0 j) (x.1 j) t.active (x.2 j).0 (x.3 j) (closed_number i x.5 x.6 j)))
+    where
+      closed_number : {k : Standing} (i : Position) → (i.0 ≡ s.present → k ≡ Closed) → ((i.0 ≡ s.present → ⊥) → k ≡ standing_from s.standing)
+          → standing_number k ≡ cond (eqb i.0 s.present) 3 (min s.standing 3)
+      closed_number i f g = elim (ℕ_discrete i.0 s.present) [
+        | yes e ↦ rw (f e, eq-eqb i.0 s.present e) refl
+        | no e ↦ rw (g e, ne_eqb i.0 s.present e) (number_back s.standing)
+      ]
+
+  any_command : (c : Command) → DoesInNumbers s c lent left r → AnyCommand s c lent left r
+  any_command c w = record {
+    number = rw (number_in_c c w) (any_number c (session_from s) lent left w.answer.session (told w.answer.reply) w.does.settled);
+    refused = refused_in_c c w;
+    accepted = accepted_in_c c w;
+    long = w.does.long;
+  }
 
 module _ (opened : OpeningSays) (says : CommandSays) (opens : (first left : List ℕ) (r : AnswerNumbers) → opened first left r → OpensInNumbers first left r)
     (does : (s : SessionNumbers) (c : Command) (lent left : List ℕ) (r : AnswerNumbers) → says s c lent left r → DoesInNumbers s c lent left r) where
@@ -156,15 +170,7 @@ module _ (opened : OpeningSays) (says : CommandSays) (opens : (first left : List
   pub demand_1 : Demand1InC opened says
   demand_1 = record {
     opening = λ first left r q. opening_in_c first left r (opens first left r q);
-    numbers = λ s c lent left r q.
-        let w = does s c lent left r q in
-        rw (number_in_c s lent left r c w) (any_number c (session_from s) lent left w.answer.session (told w.answer.reply) w.does.settled);
-    refused = λ s c lent left r q. refused_in_c s lent left r c (does s c lent left r q);
-    accepted = λ s c lent left r q. accepted_in_c s lent left r c (does s c lent left r q);
-    queried = λ s i lent left r q.
-        let w = does s (Query i) lent left r q in
-        (ap (λ (x : AnswerNumbers). x.session) w.numbers, query_reads_only w.does.settled);
-    long = λ s c lent left r q. (does s c lent left r q).does.long;
+    command = λ s c lent left r q. any_command s lent left r c (does s c lent left r q);
   }
 
 -- DEMAND 3, where no more is known of the functions than their contracts: for a caller of `firmware`

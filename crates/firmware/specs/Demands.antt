@@ -1,21 +1,19 @@
 -- DEMANDS 1 TO 3 OF THE FIVE CALLS THAT THE BUYER'S FIRMWARE RUNS, in the numbers that C hands in and gets: `Demand1InC` is of any numbers for a session and any words; `Demand3InC`, with
 -- demand 2 in it, is one claim over the whole list of calls. The engine's own are engine/specs `Promises` and `Demand`. A mark is document 01's "tap".
-use Rattle.std.specs.Prelude.{◌≡◌, true, List, ℕ, ◌+◌, ◌-◌, ◌/◌, min, ◌<◌, ◌≤◌, ℤ, pos, length, get_or}
+use Rattle.std.specs.Prelude.{◌≡◌, true, cond, List, ℕ, ◌+◌, ◌-◌, ◌/◌, min, ◌<◌, ◌≤◌, ℤ, pos, eqb, length, get_or}
 use Rattle.history.specs.declared.Position.{Position}
 use Rattle.history.specs.Minimum.{Minimum}
 use Rattle.history.specs.declared.Standing.TheVariants.{Unmarked}
 use Rattle.history.specs.declared.Command.{Command}
 use Rattle.history.specs.declared.Command.TheVariants.{Value, Mark, Query, Close}
 use Rattle.history.specs.Minima.{Least}
-use Rattle.history.specs.Replies.{Told}
 use Rattle.history.specs.Histories.{History, among, opening}
 use Rattle.history.specs.Histories as Paper
 use Rattle.runs.specs.Runs.{Model, AsLent, is_own, Call, Made, Agrees, EachCall}
 use Rattle.engine.specs.Promises.{AnyNumber}
 use Rattle.firmware.specs.declared.sessions.SessionNumbers.{SessionNumbers}
 use Rattle.firmware.specs.declared.sessions.AnswerNumbers.{AnswerNumbers}
-use Rattle.firmware.specs.Replies.{shown_of}
-use Rattle.firmware.specs.Sessions.{session_from, numbers_of}
+use Rattle.firmware.specs.Sessions.{session_from, numbers_of, ToldNumbers, told_numbers}
 
 -- what is known of an opening: the words before and after, and its answer; and of a command: the numbers of the session that went in, the command, the words before and after, and its answer
 abbrev pub OpeningSays : Type 1
@@ -25,8 +23,8 @@ abbrev pub CommandSays : Type 1
 CommandSays = SessionNumbers → Command → List ℕ → List ℕ → AnswerNumbers → Type 0
 
 -- DEMAND 1, of any numbers for a session and any words, whether or not a call returned or left them. A session by its six numbers
-abbrev pub session : (words limit active present : ℕ) (last : ℤ) (standing : ℕ) → SessionNumbers
-session words limit active present last standing = record { words = words; limit = limit; active = active; present = present; last = last; standing = standing }
+abbrev pub session_with : (words limit active present : ℕ) (last : ℤ) (standing : ℕ) → SessionNumbers
+session_with words limit active present last standing = record { words = words; limit = limit; active = active; present = present; last = last; standing = standing }
 
 -- an answer that shows nothing: value and place are 0
 abbrev pub plainly : ℕ → SessionNumbers → AnswerNumbers
@@ -35,8 +33,8 @@ plainly number s = record { session = s; number = number; value = pos 0; place =
 -- AN OPENING, of words of any content. 1: "Opening, with N below 576; the session returned is unopened with all numbers 0 and standing none"; "Otherwise: reply 0, N is the length told", and
 -- "K = (N − 512) / 64 rounded down, and at most 4,096"; "it may write only words 0 to 511"
 pub record AnyOpening (first left : List ℕ) (r : AnswerNumbers) : Type 0 where
-  pub too_short : length first < 576 → (r ≡ plainly 1 (session 0 0 0 0 (pos 0) 0)) × (left ≡ first)
-  pub long_enough : 576 ≤ length first → r ≡ plainly 0 (session (length first) (min ((length first - 512) / 64) 4096) 0 0 (pos 0) 0)
+  pub too_short : length first < 576 → (r ≡ plainly 1 (session_with 0 0 0 0 (pos 0) 0)) × (left ≡ first)
+  pub long_enough : 576 ≤ length first → r ≡ plainly 0 (session_with (length first) (min ((length first - 512) / 64) 4096) 0 0 (pos 0) 0)
   pub rest : (i : ℕ) → 512 ≤ i → get_or left i 0 ≡ get_or first i 0
   pub long : length left ≡ length first
 
@@ -44,41 +42,35 @@ pub record AnyOpening (first left : List ℕ) (r : AnswerNumbers) : Type 0 where
 abbrev pub AnyRefusal : SessionNumbers → List ℕ → List ℕ → AnswerNumbers → Type 0
 AnyRefusal s lent left r = (r ≡ plainly r.number s) × (left ≡ lent)
 
--- AN ACCEPTED COMMAND, on the numbers s. Free, on a session and words that the last call did not return and leave: what is then counted as active and, to a Query, the value and place
+-- AN ACCEPTED COMMAND, on the numbers s. Free, on a session and words other than the last call returned and left: what is then counted as active and, to a Query, the value and place
 abbrev pub AnyAcceptance : Command → SessionNumbers → List ℕ → List ℕ → AnswerNumbers → Type 0
-AnyAcceptance (Value v) s lent left r = (active : ℕ) × (r ≡ plainly 0 (session s.words s.limit active (s.present + 1) v 1))
-AnyAcceptance Mark s lent left r = (active : ℕ) × (r ≡ plainly 0 (session s.words s.limit active s.present s.last 2))
+AnyAcceptance (Value v) s lent left r = (active : ℕ) × (r ≡ plainly 0 (session_with s.words s.limit active (s.present + 1) v 1))
+AnyAcceptance Mark s lent left r = (active : ℕ) × (r ≡ plainly 0 (session_with s.words s.limit active s.present s.last 2))
+-- so, with `AnyRefusal`, a Query returns the numbers that were handed in and only reads, whatever its reply
 AnyAcceptance (Query i) s lent left r = (r.session ≡ s) × (left ≡ lent)
 -- "If it is the present position, standing is closed"; and else it stays, one above 3 as the 3 that it counts as
 AnyAcceptance (Close i) s lent left r =
-    (active standing : ℕ) × (r ≡ plainly 0 (session s.words s.limit active s.present s.last standing))
-    × (i.0 ≡ s.present → standing ≡ 3) × ((i.0 ≡ s.present → ⊥) → standing ≡ min s.standing 3)
+    (active : ℕ) × (r ≡ plainly 0 (session_with s.words s.limit active s.present s.last (cond (eqb i.0 s.present) 3 (min s.standing 3))))
 
--- That no word outside the ends is read or written and that each call ends is what the checker shows of every function
+-- ANY COMMAND, on any numbers and any words
+pub record AnyCommand (s : SessionNumbers) (c : Command) (lent left : List ℕ) (r : AnswerNumbers) : Type 0 where
+  -- 4 to 11, the first that applies to the session that the numbers stand for, else 0. Free, on a session and words other than the last call returned and left: whether a position from 1 to the present
+  -- one counts as an active mark; and whether a Mark of an unmarked position gets 10 where 4,096 marks or more are counted
+  pub number : AnyNumber (session_from s) c lent r.number
+  pub refused : (r.number ≡ 0 → ⊥) → AnyRefusal s lent left r
+  pub accepted : r.number ≡ 0 → AnyAcceptance c s lent left r
+  pub long : length left ≡ length lent
+
+-- A length of 0 is the empty list. Of the pointer no definition speaks. That no word outside the ends is read or written and that each call ends is what the checker shows of every function
 pub record Demand1InC (opens : OpeningSays) (says : CommandSays) : Type 0 where
   pub opening : (first left : List ℕ) (r : AnswerNumbers) → opens first left r → AnyOpening first left r
-  -- 4 to 11, in checking order, of the session that the numbers stand for
-  pub numbers : (s : SessionNumbers) (c : Command) (lent left : List ℕ) (r : AnswerNumbers) → says s c lent left r → AnyNumber (session_from s) c lent r.number
-  pub refused : (s : SessionNumbers) (c : Command) (lent left : List ℕ) (r : AnswerNumbers) → says s c lent left r → (r.number ≡ 0 → ⊥) → AnyRefusal s lent left r
-  pub accepted : (s : SessionNumbers) (c : Command) (lent left : List ℕ) (r : AnswerNumbers) → says s c lent left r → r.number ≡ 0 → AnyAcceptance c s lent left r
-  -- accepted or refused, a Query returns the session's numbers as they were handed in, and only reads
-  pub queried : (s : SessionNumbers) (i : Position) (lent left : List ℕ) (r : AnswerNumbers) → says s (Query i) lent left r → (r.session ≡ s) × (left ≡ lent)
-  pub long : (s : SessionNumbers) (c : Command) (lent left : List ℕ) (r : AnswerNumbers) → says s c lent left r → length left ≡ length lent
+  pub command : (s : SessionNumbers) (c : Command) (lent left : List ℕ) (r : AnswerNumbers) → says s c lent left r → AnyCommand s c lent left r
 
--- DEMAND 3. What an answer tells: the reply's number, and value and place, or zeros where nothing is shown
-pub record ToldNumbers : Type 0 where
-  pub number : ℕ
-  pub value : ℤ
-  pub place : ℕ
-
+-- DEMAND 3. What an answer tells. In a run an accepted Query tells a place of 1 or more; with another number than 0, and of another command, value and place are 0
 abbrev pub told_of : AnswerNumbers → ToldNumbers
 told_of r = record { number = r.number; value = r.value; place = r.place }
 
--- and what the bookkeeper tells, in these numbers
-abbrev pub told_numbers : Told → ToldNumbers
-told_numbers t = record { number = t.number; value = (shown_of t.shown).value; place = (shown_of t.shown).place.0 }
-
--- the bookkeeper of demand 3: the paper is the engine's bookkeeper's, and what is told and compared are C's numbers
+-- the bookkeeper of demand 3: the paper and its steps are `history Histories.model`'s, and what is told and compared is in C's numbers
 abbrev pub model : Model
 model = record {
   Command = Command;

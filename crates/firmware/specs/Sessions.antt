@@ -1,5 +1,6 @@
--- The engine's sessions and answers as the numbers that C passes, and what the exported calls promise: each is the engine's own call, on the session that the numbers stand for, in numbers.
-use Rattle.std.specs.Prelude.{◌≡◌, cond, List, ℕ, eqb, Ok, Err}
+-- The engine's sessions and answers as the numbers that C passes, and what the exported calls promise: each gives, in numbers, an answer that keeps the promise of the engine's own call on the session
+-- that the numbers stand for; where that call leaves the session as it was, the numbers are those that were handed in.
+use Rattle.std.specs.Prelude.{◌≡◌, cond, List, ℕ, ℤ, eqb, Ok, Err}
 use Rattle.history.specs.declared.Standing.{Standing}
 use Rattle.history.specs.declared.Standing.TheVariants.{None, Unmarked, Marked, Closed}
 use Rattle.history.specs.declared.Session.{Session}
@@ -44,32 +45,38 @@ numbers_of s = record {
   standing = standing_number s.standing;
 }
 
--- the numbers of the session after a call that was handed the numbers s and answered a: "In each refusal the session comes back equal", so s themselves, whatever they are
-abbrev pub given_if_refused : SessionNumbers → Session → Reply → SessionNumbers
-given_if_refused s after (Ok shown) = numbers_of after
-given_if_refused s after (Err why) = s
+-- the numbers after a command that was handed the numbers s: s themselves in a refusal, whatever they are, since "In each refusal the session comes back equal"; else those of the session `after` it
+abbrev pub unless_refused : SessionNumbers → Session → Reply → SessionNumbers
+unless_refused s after (Ok shown) = numbers_of after
+unless_refused s after (Err why) = s
 
-abbrev pub after_call : SessionNumbers → Answer → SessionNumbers
-after_call s a = given_if_refused s a.session a.reply
-
--- and after a command: a Query leaves them in each case
+-- and s themselves after a Query, which leaves the session in each case
 abbrev pub numbers_after : SessionNumbers → Command → Answer → SessionNumbers
-numbers_after s (Value v) a = after_call s a
-numbers_after s Mark a = after_call s a
+numbers_after s (Value v) a = unless_refused s a.session a.reply
+numbers_after s Mark a = unless_refused s a.session a.reply
 numbers_after s (Query i) a = s
-numbers_after s (Close i) a = after_call s a
+numbers_after s (Close i) a = unless_refused s a.session a.reply
 
--- an answer in numbers: the session's, the reply's number, and the value and place that it shows, or zeros
+-- what is told, in numbers: the reply's number, and the value and place that it shows, or zeros
+pub record ToldNumbers : Type 0 where
+  pub number : ℕ
+  pub value : ℤ
+  pub place : ℕ
+
+abbrev pub told_numbers : Told → ToldNumbers
+told_numbers t = record { number = t.number; value = (shown_of t.shown).value; place = (shown_of t.shown).place.0 }
+
+-- an answer in numbers: the session's and those that are told
 abbrev pub in_numbers : SessionNumbers → Told → AnswerNumbers
-in_numbers s t = record { session = s; number = t.number; value = (shown_of t.shown).value; place = (shown_of t.shown).place.0 }
+in_numbers s t = let told : ToldNumbers = told_numbers t in record { session = s; number = told.number; value = told.value; place = told.place }
 
--- AN OPENING: the engine's, in numbers
+-- AN OPENING
 pub record OpensInNumbers (before after : List ℕ) (r : AnswerNumbers) : Type 0 where
   pub answer : Answer
   pub opens : Opens before after answer
   pub numbers : r ≡ in_numbers (numbers_of answer.session) (told answer.reply)
 
--- A COMMAND: the engine's, on the session that the numbers stand for, in numbers
+-- A COMMAND, on the session that the numbers s stand for
 pub record DoesInNumbers (s : SessionNumbers) (c : Command) (before after : List ℕ) (r : AnswerNumbers) : Type 0 where
   pub answer : Answer
   pub does : Does (session_from s) c before after answer

@@ -1,7 +1,7 @@
 // The engine's sessions and answers as structs of numbers. They stay structs of numbers for the C interface: C has no `Option`, no `Result` and no enum of a fixed size.
 ghost use Rattle.std.specs.Prelude.{◌≡◌};
 ghost use Rattle.history.specs.Replies.{told};
-ghost use Rattle.firmware.specs.Sessions.{standing_number, standing_from, session_from, numbers_of, after_call, in_numbers};
+ghost use Rattle.firmware.specs.Sessions.{standing_number, standing_from, session_from, numbers_of, unless_refused, in_numbers};
 
 use history::{Answer, Position, Reply, Session, Standing};
 
@@ -86,7 +86,7 @@ impl From<Session> for SessionNumbers {
 impl SessionNumbers {
     // The numbers after a call that was handed these: these again where it was refused.
     pub fn after(self, a: Answer<Session>) -> SessionNumbers
-        ensures { result ≡ after_call self a }
+        ensures { result ≡ unless_refused self a.session a.reply }
     {
         match a.reply {
             Ok(_) => SessionNumbers::from(a.session),
