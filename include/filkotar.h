@@ -33,12 +33,15 @@ extern "C" {
 #endif
 
 /*
- * What a call comes to, the `number` that it gives: FILKOTAR_ACCEPTED, or why it was refused. A table beside each function says which number is due when: the first line that applies.
+ * The numbers that calls answer with: the call was accepted, or why it was refused. The table beside a function says which it gives, and when.
+ *
+ * FILKOTAR_UNKNOWN_KIND and FILKOTAR_ARGUMENT_CUT_OFF no function here gives. They are for programs that read the engine's commands as bytes: a kind byte
+ * that is none of the four, and fewer bytes after it than its argument has.
  */
 enum {
     FILKOTAR_ACCEPTED = 0,
     FILKOTAR_AREA_TOO_SHORT = 1,
-    FILKOTAR_UNKNOWN_KIND = 2,     /* this one and the next are for programs that read commands as bytes; no function here gives them */
+    FILKOTAR_UNKNOWN_KIND = 2,
     FILKOTAR_ARGUMENT_CUT_OFF = 3,
     FILKOTAR_UNOPENED = 4,
     FILKOTAR_OTHER_LENGTH = 5,
@@ -55,11 +58,11 @@ enum {
 };
 
 /*
- * The level engine. It is given values one by one: the headroom of each sample, in quarter decibels, which is below zero where the sample clips. A mark starts
- * a layer. A query tells how low headroom has sunk since a mark, and where. A close forgets a mark.
+ * The level engine. It is given values one by one: the headroom of each sample in quarter decibels, below zero where the sample clips. A mark starts a layer.
+ * A query tells how low headroom has sunk since that mark, and where: the layer's dip. A close forgets the mark.
  *
- * The first value has position 1, the next 2, and so on. The present position is that of the last value; it is 0 before the first. Only the present position
- * can be marked. It is an active mark from then on until it is closed.
+ * The first value has position 1, the next 2, and so on. The present position is that of the last value; before the first it is 0. Only the present position
+ * can be marked. From then on it is an active mark, until it is closed.
  *
  *     enum { WORDS = FILKOTAR_WORDS(60) };
  *     static uint64_t area[WORDS];
@@ -70,17 +73,18 @@ enum {
  *     a = filkotar_query(a.session, area, WORDS, 1);                   a.value is -3, and a.place is 2
  *     a = filkotar_close(a.session, area, WORDS, 1);                   position 1 is none any more
  *
- * You lend the engine an array of 64-bit words, 576 or more, and lend it again, whole, with each call. On `length` words K marks can be active at a time,
- * where K is (length - 512) / 64 rounded down, and at most 4096. FILKOTAR_WORDS(k) words are for k of them, from 1 to 4096. What the words hold before the
- * opening does not matter. From then on they are the engine's, and nobody else writes them: the answers below are for words that hold what the last call left
- * in them, and for the session that the last answer has. With l the most marks that were active at a time since the opening, every word from
- * area[512 + 64 * l] on holds what it held just before the opening. The words before that one may be written by each value, mark and close that is accepted.
+ * You lend the engine an array of 64-bit words, 576 or more, and lend it again, whole, with each call. K marks can be active at a time, where K is
+ * (length - 512) / 64, as C divides, and at most 4096. FILKOTAR_WORDS(k) is the length for k of them, with k from 1 to 4096.
+ *
+ * What the words hold before the opening does not matter. From then on all of them are the engine's: the answers below are for words that nobody else has
+ * written since the last call, and for the session that the last answer has. With l the most marks that were active at a time since the opening, every word
+ * from area[512 + 64 * l] on holds what it held just before the opening. A value, a mark or a close that is accepted may write any word before these.
  *
  * A session holds the rest of what the engine knows. Hand in the one that the last answer has. Engines with sessions and words of their own do not disturb
  * one another.
  *
- * In every call `area` points to `length` words, which nothing else uses while the call runs; while a query runs, others may read them. Where `length` is 0 it
- * points to none, and may be a null pointer.
+ * In every call `area` points to `length` words, which nothing else uses while the call runs; but while a query runs, others may read them. Where `length` is
+ * 0 it points to none, and may be a null pointer.
  */
 #define FILKOTAR_WORDS(k) (512 + 64 * (uint64_t)(k))
 
@@ -136,22 +140,22 @@ FILKOTAR_SAME(__builtin_offsetof(filkotar_answer, place), 48);
  *     length is less than 576             number 1, FILKOTAR_AREA_TOO_SHORT
  *     any other                           number 0: the engine is open, session is { length, K, 0, 0, 0, FILKOTAR_NONE }
  *
- * With 1 no word is written, and session is { 0, 0, 0, 0, 0, FILKOTAR_NONE }, which is not open. With 0 no word from area[512] on is written. In each case
- * value and place are 0. An opening of words that an engine has already forgets all that it knew.
+ * With 1 no word is written, and session is { 0, 0, 0, 0, 0, FILKOTAR_NONE }, which is not open. With 0 no word from area[512] on is written, and whatever an
+ * earlier engine kept in the area is forgotten. In each case value and place are 0.
  */
 filkotar_answer filkotar_open(uint64_t *area, uint64_t length);
 
 /*
- * The four calls that follow take a session s. With each number but 0 nothing has happened: session is s, field by field, no word is written, and value and
- * place are 0. With 0, value and place are 0 too, but for a query's.
+ * Each of the four calls below takes a session s. With any number but 0 nothing has happened: session is s, field by field, no word is written, and value and
+ * place are 0. With 0, value and place are 0 too, but after a query.
  *
- * These calls are as safe with a session that no call returned, or with words that hold something else than the last call left. They stay within the `length`
- * words, return, and give the number and the session below. A standing above 3 counts as 3, FILKOTAR_CLOSED. Any outcome may then be had of these:
+ * Each is as safe with a session that no call returned, or with words that hold something else than the last call left. It stays within the `length` words,
+ * returns, and gives the number and the session that are told with it, where a standing above 3 counts as 3, FILKOTAR_CLOSED. But these may then be any:
  *
  *     whether a position from 1 to s.present is an active mark
- *     the value and place that a query shows
- *     session.active after a value, a mark or a close that is accepted
- *     where s.active is 4096 or more, and not s.limit: whether a mark that the lines before 10 do not refuse has number 10 or 0
+ *     the value and place of a query with number 0
+ *     the field active in the session after a value, a mark or a close with number 0
+ *     with s.active 4096 or more, the number of a mark that has 0 by its table: it is 0 or 10
  */
 
 /*
@@ -189,10 +193,8 @@ filkotar_answer filkotar_mark(filkotar_session s, uint64_t *area, uint64_t lengt
  *     position is not an active mark      number 11, FILKOTAR_NOT_ACTIVE: position 0 and those above s.present never are
  *     any other                           number 0
  *
- * In each case session is s, field by field, and no word is written.
- *
- * With 0, value is the least of the values at `position` to s.present, both included, and place is its position: where it stands at several of theirs, the
- * earliest. The dip of the layer, which filkotar_gain takes, is this value.
+ * With 0 too session is s, field by field, and no word is written. value is the least of the values at `position` to s.present, both included, and place is its
+ * position: where it stands at several of theirs, the earliest.
  */
 filkotar_answer filkotar_query(filkotar_session s, const uint64_t *area, uint64_t length, uint32_t position);
 
@@ -202,10 +204,10 @@ filkotar_answer filkotar_query(filkotar_session s, const uint64_t *area, uint64_
  *     s.words is 0                        number 4, FILKOTAR_UNOPENED
  *     length is not s.words               number 5, FILKOTAR_OTHER_LENGTH
  *     position is not an active mark      number 11, FILKOTAR_NOT_ACTIVE: position 0 and those above s.present never are, and none is where s.active is 0
- *     any other                           number 0: position is not an active mark any more
+ *     any other                           number 0: position is no active mark any more
  *
  * With 0, session is { s.words, s.limit, s.active - 1, s.present, s.last, standing }, where standing is FILKOTAR_CLOSED if position is s.present, and else
- * s.standing.
+ * s.standing, or 3 for one above 3.
  */
 filkotar_answer filkotar_close(filkotar_session s, uint64_t *area, uint64_t length, uint32_t position);
 
