@@ -138,7 +138,7 @@ FILKOTAR_SAME(__builtin_offsetof(filkotar_answer, place), 48);
  * Opens the engine. The first line that applies:
  *
  *     length is less than 576             number 1, FILKOTAR_AREA_TOO_SHORT
- *     any other                           number 0: the engine is open, session is { length, K, 0, 0, 0, FILKOTAR_NONE }
+ *     any other                           number 0, FILKOTAR_ACCEPTED: the engine is open, session is { length, K, 0, 0, 0, FILKOTAR_NONE }
  *
  * With 1 no word is written, and session is { 0, 0, 0, 0, 0, FILKOTAR_NONE }, which is not open. With 0 no word from area[512] on is written, and whatever an
  * earlier engine kept in the area is forgotten. In each case value and place are 0.
@@ -150,12 +150,12 @@ filkotar_answer filkotar_open(uint64_t *area, uint64_t length);
  * place are 0. With 0, value and place are 0 too, but after a query.
  *
  * Each is as safe with a session that no call returned, or with words that hold something else than the last call left. It stays within the `length` words,
- * returns, and gives the number and the session that are told with it, where a standing above 3 counts as 3, FILKOTAR_CLOSED. But these may then be any:
+ * returns, and gives the number and the session that are told with it, where a standing above 3 counts as 3, FILKOTAR_CLOSED. Not promised then is
  *
- *     whether a position from 1 to s.present is an active mark
- *     the value and place of a query with number 0
- *     the field active in the session after a value, a mark or a close with number 0
- *     with s.active 4096 or more, the number of a mark that has 0 by its table: it is 0 or 10
+ *     whether a position from 1 to s.present is an active mark;
+ *     which value and place a query with number 0 shows;
+ *     what session.active is after a value, a mark or a close with number 0;
+ *     where s.active is 4096 or more, whether a mark that has number 0 by its table gets 0 or 10.
  */
 
 /*
@@ -164,7 +164,7 @@ filkotar_answer filkotar_open(uint64_t *area, uint64_t length);
  *     s.words is 0                        number 4, FILKOTAR_UNOPENED
  *     length is not s.words               number 5, FILKOTAR_OTHER_LENGTH
  *     s.present is 4294967295             number 6, FILKOTAR_LAST_POSITION: there are no more positions
- *     any other                           number 0: the value is accepted
+ *     any other                           number 0, FILKOTAR_ACCEPTED: the value is accepted
  *
  * With 0, session is { s.words, s.limit, s.active, s.present + 1, v, FILKOTAR_UNMARKED }.
  */
@@ -179,7 +179,7 @@ filkotar_answer filkotar_value(filkotar_session s, uint64_t *area, uint64_t leng
  *     s.standing is FILKOTAR_MARKED       number 8, FILKOTAR_ALREADY_MARKED
  *     s.standing is FILKOTAR_CLOSED       number 9, FILKOTAR_ALREADY_CLOSED: a position is marked once
  *     s.active is s.limit                 number 10, FILKOTAR_FULL: no more marks until one is closed
- *     any other                           number 0: position s.present is an active mark
+ *     any other                           number 0, FILKOTAR_ACCEPTED: position s.present is an active mark
  *
  * With 0, session is { s.words, s.limit, s.active + 1, s.present, s.last, FILKOTAR_MARKED }.
  */
@@ -191,7 +191,7 @@ filkotar_answer filkotar_mark(filkotar_session s, uint64_t *area, uint64_t lengt
  *     s.words is 0                        number 4, FILKOTAR_UNOPENED
  *     length is not s.words               number 5, FILKOTAR_OTHER_LENGTH
  *     position is not an active mark      number 11, FILKOTAR_NOT_ACTIVE: position 0 and those above s.present never are
- *     any other                           number 0
+ *     any other                           number 0, FILKOTAR_ACCEPTED
  *
  * With 0 too session is s, field by field, and no word is written. value is the least of the values at `position` to s.present, both included, and place is its
  * position: where it stands at several of theirs, the earliest.
@@ -204,7 +204,7 @@ filkotar_answer filkotar_query(filkotar_session s, const uint64_t *area, uint64_
  *     s.words is 0                        number 4, FILKOTAR_UNOPENED
  *     length is not s.words               number 5, FILKOTAR_OTHER_LENGTH
  *     position is not an active mark      number 11, FILKOTAR_NOT_ACTIVE: position 0 and those above s.present never are, and none is where s.active is 0
- *     any other                           number 0: position is no active mark any more
+ *     any other                           number 0, FILKOTAR_ACCEPTED: position is no active mark any more
  *
  * With 0, session is { s.words, s.limit, s.active - 1, s.present, s.last, standing }, where standing is FILKOTAR_CLOSED if position is s.present, and else
  * s.standing, or 3 for one above 3.
@@ -219,7 +219,8 @@ filkotar_answer filkotar_close(filkotar_session s, uint64_t *area, uint64_t leng
  *     -1 to -240     with n = -value, the largest whole g with g^80 * 10^n at most 32768^80
  *     below -240     0
  *
- * The second is 32768 lowered by n quarter decibels and rounded down. So -80 gives 3276, -240 gives 32 and -241 gives 0. Every value has a gain, INT32_MIN and INT32_MAX too. A higher value never has a lower gain.
+ * The second is 32768 lowered by n quarter decibels and rounded down. So -80 gives 3276, -240 gives 32 and -241 gives 0. Every value has a gain, INT32_MIN
+ * and INT32_MAX too. A higher value never has a lower gain.
  */
 uint16_t filkotar_gain(int32_t value);
 
@@ -274,7 +275,7 @@ FILKOTAR_SAME(__builtin_offsetof(filkotar_window_answer, place), 32);
  *
  *     width is 0, or above 4096           number 12, FILKOTAR_WIDTH_OUT_OF_RANGE
  *     length is less than 2 * width       number 13, FILKOTAR_TOO_FEW_WORDS
- *     any other                           number 0: the window is open, session is { length, width, 0 }
+ *     any other                           number 0, FILKOTAR_ACCEPTED: the window is open, session is { length, width, 0 }
  *
  * With 12 and 13 no word is written, and session is { 0, 0, 0 }, which is not open. In each case value and place are 0.
  */
@@ -286,7 +287,7 @@ filkotar_window_answer filkotar_window_open(uint64_t *area, uint64_t length, uin
  *     s.words is 0                        number 4, FILKOTAR_UNOPENED: the window is not open
  *     length is not s.words               number 5, FILKOTAR_OTHER_LENGTH
  *     s.present is 4294967295             number 6, FILKOTAR_LAST_POSITION: there are no more positions
- *     any other                           number 0: the value is accepted
+ *     any other                           number 0, FILKOTAR_ACCEPTED: the value is accepted
  *
  * With 4, 5 and 6 nothing has happened: session is s, no word is written, and value and place are 0.
  *
@@ -336,7 +337,7 @@ FILKOTAR_SAME(__builtin_offsetof(filkotar_found, place), 8);
  * Builds the index of a take, and returns a number. The first line that applies:
  *
  *     blocks is not (length + 63) / 64    number 15, FILKOTAR_OTHER_INDEX_LENGTH: nothing is written
- *     any other                           number 0: the index is built
+ *     any other                           number 0, FILKOTAR_ACCEPTED: the index is built
  *
  * With 0, each of the `blocks` entries is written, whatever it held, and nothing else: index[b] is the least of take[64 * b] to take[64 * b + 63], or of
  * those of them that are in the take. Values may be any, INT32_MIN and INT32_MAX too.
@@ -348,7 +349,7 @@ uint32_t filkotar_build(const int32_t *take, uint64_t length, int32_t *index, ui
  *
  *     blocks is not (length + 63) / 64          number 15, FILKOTAR_OTHER_INDEX_LENGTH
  *     i is above j, or j is not below length    number 14, FILKOTAR_RANGE_OUT_OF_TAKE
- *     any other                                 number 0
+ *     any other                                 number 0, FILKOTAR_ACCEPTED
  *
  * With 15 and 14 value and place are 0. i and j may be any numbers, up to UINT64_MAX.
  *
@@ -396,7 +397,7 @@ FILKOTAR_SAME(__builtin_offsetof(filkotar_reading, low), 20);
  *
  *     blocks is not (length + 63) / 64          number 15, FILKOTAR_OTHER_INDEX_LENGTH
  *     i is above j, or j is not below length    number 14, FILKOTAR_RANGE_OUT_OF_TAKE
- *     any other                                 number 0
+ *     any other                                 number 0, FILKOTAR_ACCEPTED
  *
  * With number 15 or 14 the other four are 0, whatever the budget. i, j and budget may be any numbers, up to UINT64_MAX.
  *

@@ -33,8 +33,9 @@ def leads_to(name, operation, operands, record):
     """The places in the function `name` to which a jump leads; None where it is no jump, or not told."""
     if re.fullmatch('j[a-z]+', operation) and not record and (m := re.fullmatch(r'([0-9a-f]+) <(.*)\+0x\1>', operands)) and m[2] == name:
         return [int(m[1], 16)]
-    if operation == 'jmp' and re.fullmatch(r'\*%r\w+', operands):
-        # through the function's table, whose entries the linker fills with the ways from the table's start
+    by_table = [text for text in sections[f'.text.{name}'][0].values() if re.match(r'jmp +\*', text)]
+    if operation == 'jmp' and re.fullmatch(r'\*%r\w+', operands) and len(by_table) == 1:
+        # through the function's one table, whose entries the linker fills with the ways from the table's start
         entries = sections.get(f'.rodata.{name}', ({}, {}))[1]
         if all(kind == 'R_X86_64_PC32' and symbol == f'.text.{name}' for kind, symbol, _ in entries.values()):
             return [place - offset for offset, (_, _, place) in entries.items()] or None
