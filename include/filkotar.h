@@ -9,9 +9,14 @@
  *
  *                              bytes of stack    of these below the stack pointer    registers other than the general ones
  *     filkotar_build           8                 0                                   xmm0 xmm1 xmm2 xmm3 xmm4
+ *     filkotar_close           168               0                                   none
  *     filkotar_gain            0                 0                                   none
+ *     filkotar_mark            112               0                                   xmm0
+ *     filkotar_open            0                 0                                   xmm0
+ *     filkotar_query           152               0                                   xmm0 xmm1
  *     filkotar_rough           120               72                                  xmm0 xmm1 xmm2 xmm3 xmm4
  *     filkotar_search          96                48                                  xmm0 xmm1 xmm2 xmm3 xmm4
+ *     filkotar_value           40                0                                   xmm0 xmm1
  *     filkotar_window_open     8                 0                                   none
  *     filkotar_window_value    40                0                                   none
  *
@@ -28,14 +33,194 @@ extern "C" {
 #endif
 
 /*
- * A layer's gain, from 0 to 32768, for its dip value: the least headroom from the layer's tap on, in quarter decibels.
+ * The numbers that calls answer with: the call was accepted, or why it was refused. The table beside a function says which it gives, and when.
+ *
+ * FILKOTAR_UNKNOWN_KIND and FILKOTAR_ARGUMENT_CUT_OFF no function here gives. They are for programs that read the engine's commands as bytes: a kind byte
+ * that is none of the four, and fewer bytes after it than its argument has.
+ */
+enum {
+    FILKOTAR_ACCEPTED = 0,
+    FILKOTAR_AREA_TOO_SHORT = 1,
+    FILKOTAR_UNKNOWN_KIND = 2,
+    FILKOTAR_ARGUMENT_CUT_OFF = 3,
+    FILKOTAR_UNOPENED = 4,
+    FILKOTAR_OTHER_LENGTH = 5,
+    FILKOTAR_LAST_POSITION = 6,
+    FILKOTAR_NOTHING_TO_MARK = 7,
+    FILKOTAR_ALREADY_MARKED = 8,
+    FILKOTAR_ALREADY_CLOSED = 9,
+    FILKOTAR_FULL = 10,
+    FILKOTAR_NOT_ACTIVE = 11,
+    FILKOTAR_WIDTH_OUT_OF_RANGE = 12,
+    FILKOTAR_TOO_FEW_WORDS = 13,
+    FILKOTAR_RANGE_OUT_OF_TAKE = 14,
+    FILKOTAR_OTHER_INDEX_LENGTH = 15
+};
+
+/*
+ * The level engine. It is given values one by one: the headroom of each sample in quarter decibels, below zero where the sample clips. A mark starts a layer.
+ * A query tells how low headroom has sunk since that mark, and where: the layer's dip. A close forgets the mark.
+ *
+ * The first value has position 1, the next 2, and so on. The present position is that of the last value; before the first it is 0. Only the present position
+ * can be marked. From then on it is an active mark, until it is closed.
+ *
+ *     enum { WORDS = FILKOTAR_WORDS(60) };
+ *     static uint64_t area[WORDS];
+ *     filkotar_answer a = filkotar_open(area, WORDS);                  a.session.limit is 60
+ *     a = filkotar_value(a.session, area, WORDS, 12);
+ *     a = filkotar_mark(a.session, area, WORDS);                       position 1 is an active mark
+ *     a = filkotar_value(a.session, area, WORDS, -3);
+ *     a = filkotar_query(a.session, area, WORDS, 1);                   a.value is -3, and a.place is 2
+ *     a = filkotar_close(a.session, area, WORDS, 1);                   position 1 is none any more
+ *
+ * You lend the engine an array of 64-bit words, 576 or more, and lend it again, whole, with each call. K marks can be active at a time, where K is
+ * (length - 512) / 64, as C divides, and at most 4096. FILKOTAR_WORDS(k) is the length for k of them, with k from 1 to 4096.
+ *
+ * What the words hold before the opening does not matter. From then on all of them are the engine's: the answers below are for words that nobody else has
+ * written since the last call, and for the session that the last answer has. With l the most marks that were active at a time since the opening, every word
+ * from area[512 + 64 * l] on holds what it held just before the opening. A value, a mark or a close that is accepted may write any word before these.
+ *
+ * A session holds the rest of what the engine knows. Hand in the one that the last answer has. Engines with sessions and words of their own do not disturb
+ * one another.
+ *
+ * In every call `area` points to `length` words, which nothing else uses while the call runs; but while a query runs, others may read them. Where `length` is
+ * 0 it points to none, and may be a null pointer.
+ */
+#define FILKOTAR_WORDS(k) (512 + 64 * (uint64_t)(k))
+
+typedef struct {
+    uint64_t words;    /* how many words were lent at the opening; 0: the engine is not open */
+    uint64_t limit;    /* K: how many marks can be active at a time */
+    uint64_t active;   /* how many are */
+    uint32_t present;  /* the present position: how many values were accepted */
+    int32_t last;      /* the last of these; 0 before the first */
+    uint32_t standing; /* what the present position is, one of the four below */
+} filkotar_session;
+
+enum {
+    FILKOTAR_NONE = 0,     /* no value was accepted yet */
+    FILKOTAR_UNMARKED = 1, /* not marked, since its value was accepted */
+    FILKOTAR_MARKED = 2,   /* an active mark */
+    FILKOTAR_CLOSED = 3    /* a mark that was closed */
+};
+
+typedef struct {
+    filkotar_session session; /* for the next call */
+    uint32_t number;          /* 0, or why the call was refused */
+    int32_t value;            /* after a query that was accepted, the least value since the mark; else 0 */
+    uint32_t place;           /* and its position; else 0 */
+} filkotar_answer;
+
+/* The layout that the library goes by. Compilers from C11 and C++11 on compare it. */
+#if defined(__cplusplus) && __cplusplus >= 201103L
+#define FILKOTAR_SAME(a, b) static_assert((a) == (b), "filkotar.h: the compiler lays out " #a " otherwise than the library")
+#elif defined(__STDC_VERSION__) && __STDC_VERSION__ >= 201112L
+#define FILKOTAR_SAME(a, b) _Static_assert((a) == (b), "filkotar.h: the compiler lays out " #a " otherwise than the library")
+#endif
+#ifdef FILKOTAR_SAME
+FILKOTAR_SAME(sizeof(filkotar_session), 40);
+FILKOTAR_SAME(sizeof(filkotar_answer), 56);
+#ifdef __GNUC__
+FILKOTAR_SAME(__builtin_offsetof(filkotar_session, words), 0);
+FILKOTAR_SAME(__builtin_offsetof(filkotar_session, limit), 8);
+FILKOTAR_SAME(__builtin_offsetof(filkotar_session, active), 16);
+FILKOTAR_SAME(__builtin_offsetof(filkotar_session, present), 24);
+FILKOTAR_SAME(__builtin_offsetof(filkotar_session, last), 28);
+FILKOTAR_SAME(__builtin_offsetof(filkotar_session, standing), 32);
+FILKOTAR_SAME(__builtin_offsetof(filkotar_answer, session), 0);
+FILKOTAR_SAME(__builtin_offsetof(filkotar_answer, number), 40);
+FILKOTAR_SAME(__builtin_offsetof(filkotar_answer, value), 44);
+FILKOTAR_SAME(__builtin_offsetof(filkotar_answer, place), 48);
+#endif
+#endif
+
+/*
+ * Opens the engine. The first line that applies:
+ *
+ *     length is less than 576             number 1, FILKOTAR_AREA_TOO_SHORT
+ *     any other                           number 0, FILKOTAR_ACCEPTED: the engine is open, session is { length, K, 0, 0, 0, FILKOTAR_NONE }
+ *
+ * With 1 no word is written, and session is { 0, 0, 0, 0, 0, FILKOTAR_NONE }, which is not open. With 0 no word from area[512] on is written, and whatever an
+ * earlier engine kept in the area is forgotten. In each case value and place are 0.
+ */
+filkotar_answer filkotar_open(uint64_t *area, uint64_t length);
+
+/*
+ * Each of the four calls below takes a session s. With any number but 0 nothing has happened: session is s, field by field, no word is written, and value and
+ * place are 0. With 0, value and place are 0 too, but after a query.
+ *
+ * Each is as safe with a session that no call returned, or with words that hold something else than the last call left. It stays within the `length` words,
+ * returns, and gives the number and the session that are told with it, where a standing above 3 counts as 3, FILKOTAR_CLOSED. Not promised then is
+ *
+ *     whether a position from 1 to s.present is an active mark;
+ *     which value and place a query with number 0 shows;
+ *     what session.active is after a value, a mark or a close with number 0;
+ *     where s.active is 4096 or more, whether a mark that has number 0 by its table gets 0 or 10.
+ */
+
+/*
+ * Gives the engine its next value, which may be any, INT32_MIN and INT32_MAX too. The first line that applies:
+ *
+ *     s.words is 0                        number 4, FILKOTAR_UNOPENED
+ *     length is not s.words               number 5, FILKOTAR_OTHER_LENGTH
+ *     s.present is 4294967295             number 6, FILKOTAR_LAST_POSITION: there are no more positions
+ *     any other                           number 0, FILKOTAR_ACCEPTED: the value is accepted
+ *
+ * With 0, session is { s.words, s.limit, s.active, s.present + 1, v, FILKOTAR_UNMARKED }.
+ */
+filkotar_answer filkotar_value(filkotar_session s, uint64_t *area, uint64_t length, int32_t v);
+
+/*
+ * Marks the present position. The first line that applies:
+ *
+ *     s.words is 0                        number 4, FILKOTAR_UNOPENED
+ *     length is not s.words               number 5, FILKOTAR_OTHER_LENGTH
+ *     s.standing is FILKOTAR_NONE         number 7, FILKOTAR_NOTHING_TO_MARK
+ *     s.standing is FILKOTAR_MARKED       number 8, FILKOTAR_ALREADY_MARKED
+ *     s.standing is FILKOTAR_CLOSED       number 9, FILKOTAR_ALREADY_CLOSED: a position is marked once
+ *     s.active is s.limit                 number 10, FILKOTAR_FULL: no more marks until one is closed
+ *     any other                           number 0, FILKOTAR_ACCEPTED: position s.present is an active mark
+ *
+ * With 0, session is { s.words, s.limit, s.active + 1, s.present, s.last, FILKOTAR_MARKED }.
+ */
+filkotar_answer filkotar_mark(filkotar_session s, uint64_t *area, uint64_t length);
+
+/*
+ * Tells the least value since a mark. The first line that applies:
+ *
+ *     s.words is 0                        number 4, FILKOTAR_UNOPENED
+ *     length is not s.words               number 5, FILKOTAR_OTHER_LENGTH
+ *     position is not an active mark      number 11, FILKOTAR_NOT_ACTIVE: position 0 and those above s.present never are
+ *     any other                           number 0, FILKOTAR_ACCEPTED
+ *
+ * With 0 too session is s, field by field, and no word is written. value is the least of the values at `position` to s.present, both included, and place is its
+ * position: where it stands at several of theirs, the earliest.
+ */
+filkotar_answer filkotar_query(filkotar_session s, const uint64_t *area, uint64_t length, uint32_t position);
+
+/*
+ * Closes a mark, which makes room for another. The first line that applies:
+ *
+ *     s.words is 0                        number 4, FILKOTAR_UNOPENED
+ *     length is not s.words               number 5, FILKOTAR_OTHER_LENGTH
+ *     position is not an active mark      number 11, FILKOTAR_NOT_ACTIVE: position 0 and those above s.present never are, and none is where s.active is 0
+ *     any other                           number 0, FILKOTAR_ACCEPTED: position is no active mark any more
+ *
+ * With 0, session is { s.words, s.limit, s.active - 1, s.present, s.last, standing }, where standing is FILKOTAR_CLOSED if position is s.present, and else
+ * s.standing, or 3 for one above 3.
+ */
+filkotar_answer filkotar_close(filkotar_session s, uint64_t *area, uint64_t length, uint32_t position);
+
+/*
+ * A layer's gain, from 0 to 32768, for its dip value: the least headroom from the layer's mark on, in quarter decibels.
  *
  *     value          gain
  *     0 or more      32768
  *     -1 to -240     with n = -value, the largest whole g with g^80 * 10^n at most 32768^80
  *     below -240     0
  *
- * The second is 32768 lowered by n quarter decibels and rounded down. So -80 gives 3276, -240 gives 32 and -241 gives 0. Every value has a gain, INT32_MIN and INT32_MAX too. A higher value never has a lower gain.
+ * The second is 32768 lowered by n quarter decibels and rounded down. So -80 gives 3276, -240 gives 32 and -241 gives 0. Every value has a gain, INT32_MIN
+ * and INT32_MAX too. A higher value never has a lower gain.
  */
 uint16_t filkotar_gain(int32_t value);
 
@@ -71,12 +256,6 @@ typedef struct {
     uint32_t place;          /* and its position; else 0 */
 } filkotar_window_answer;
 
-/* The layout that the library goes by. Compilers from C11 and C++11 on compare it. */
-#if defined(__cplusplus) && __cplusplus >= 201103L
-#define FILKOTAR_SAME(a, b) static_assert((a) == (b), "filkotar.h: the compiler lays out " #a " otherwise than the library")
-#elif defined(__STDC_VERSION__) && __STDC_VERSION__ >= 201112L
-#define FILKOTAR_SAME(a, b) _Static_assert((a) == (b), "filkotar.h: the compiler lays out " #a " otherwise than the library")
-#endif
 #ifdef FILKOTAR_SAME
 FILKOTAR_SAME(sizeof(filkotar_window), 24);
 FILKOTAR_SAME(sizeof(filkotar_window_answer), 40);
@@ -94,9 +273,9 @@ FILKOTAR_SAME(__builtin_offsetof(filkotar_window_answer, place), 32);
 /*
  * Opens a window of the last `width` values. The first line that applies:
  *
- *     width is 0, or above 4096           number 12
- *     length is less than 2 * width       number 13
- *     any other                           number 0: the window is open, session is { length, width, 0 }
+ *     width is 0, or above 4096           number 12, FILKOTAR_WIDTH_OUT_OF_RANGE
+ *     length is less than 2 * width       number 13, FILKOTAR_TOO_FEW_WORDS
+ *     any other                           number 0, FILKOTAR_ACCEPTED: the window is open, session is { length, width, 0 }
  *
  * With 12 and 13 no word is written, and session is { 0, 0, 0 }, which is not open. In each case value and place are 0.
  */
@@ -105,10 +284,10 @@ filkotar_window_answer filkotar_window_open(uint64_t *area, uint64_t length, uin
 /*
  * Gives the window its next value, which may be any, INT32_MIN and INT32_MAX too. The first line that applies:
  *
- *     s.words is 0                        number 4: the window is not open
- *     length is not s.words               number 5
- *     s.present is 4294967295             number 6: there are no more positions
- *     any other                           number 0: the value is accepted
+ *     s.words is 0                        number 4, FILKOTAR_UNOPENED: the window is not open
+ *     length is not s.words               number 5, FILKOTAR_OTHER_LENGTH
+ *     s.present is 4294967295             number 6, FILKOTAR_LAST_POSITION: there are no more positions
+ *     any other                           number 0, FILKOTAR_ACCEPTED: the value is accepted
  *
  * With 4, 5 and 6 nothing has happened: session is s, no word is written, and value and place are 0.
  *
@@ -127,7 +306,7 @@ filkotar_window_answer filkotar_window_value(filkotar_window s, uint64_t *area, 
  * high and a low figure for that value early, and no place.
  *
  *     static int32_t take[1000], index[16];                            16 is (1000 + 63) / 64
- *     if (filkotar_build(take, 1000, index, 16) == 0) {
+ *     if (filkotar_build(take, 1000, index, 16) == FILKOTAR_ACCEPTED) {
  *         filkotar_found f = filkotar_search(take, 1000, index, 16, 100, 699);
  *         ...                                                          f.value is the least of take[100] to take[699], and take[f.place] is where it stands
  *     }
@@ -157,8 +336,8 @@ FILKOTAR_SAME(__builtin_offsetof(filkotar_found, place), 8);
 /*
  * Builds the index of a take, and returns a number. The first line that applies:
  *
- *     blocks is not (length + 63) / 64    number 15: nothing is written
- *     any other                           number 0: the index is built
+ *     blocks is not (length + 63) / 64    number 15, FILKOTAR_OTHER_INDEX_LENGTH: nothing is written
+ *     any other                           number 0, FILKOTAR_ACCEPTED: the index is built
  *
  * With 0, each of the `blocks` entries is written, whatever it held, and nothing else: index[b] is the least of take[64 * b] to take[64 * b + 63], or of
  * those of them that are in the take. Values may be any, INT32_MIN and INT32_MAX too.
@@ -168,9 +347,9 @@ uint32_t filkotar_build(const int32_t *take, uint64_t length, int32_t *index, ui
 /*
  * Searches the range from take[i] to take[j], both included, for its least value. The first line that applies:
  *
- *     blocks is not (length + 63) / 64          number 15
- *     i is above j, or j is not below length    number 14
- *     any other                                 number 0
+ *     blocks is not (length + 63) / 64          number 15, FILKOTAR_OTHER_INDEX_LENGTH
+ *     i is above j, or j is not below length    number 14, FILKOTAR_RANGE_OUT_OF_TAKE
+ *     any other                                 number 0, FILKOTAR_ACCEPTED
  *
  * With 15 and 14 value and place are 0. i and j may be any numbers, up to UINT64_MAX.
  *
@@ -216,9 +395,9 @@ FILKOTAR_SAME(__builtin_offsetof(filkotar_reading, low), 20);
 /*
  * Reads the range from take[i] to take[j], both included, with no more than `budget` looks. The first line that applies:
  *
- *     blocks is not (length + 63) / 64          number 15
- *     i is above j, or j is not below length    number 14
- *     any other                                 number 0
+ *     blocks is not (length + 63) / 64          number 15, FILKOTAR_OTHER_INDEX_LENGTH
+ *     i is above j, or j is not below length    number 14, FILKOTAR_RANGE_OUT_OF_TAKE
+ *     any other                                 number 0, FILKOTAR_ACCEPTED
  *
  * With number 15 or 14 the other four are 0, whatever the budget. i, j and budget may be any numbers, up to UINT64_MAX.
  *
