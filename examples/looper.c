@@ -1,5 +1,6 @@
-/* The layers of a loop pedal, by the level engine: each sample's headroom goes in, a tap starts a layer, and the mixer gets the gain of each layer. Here the samples stand in a table and a log is
-   printed; in a pedal they come from the converter and the foot switch. What is asserted fails by a mistake in this program alone.
+/* The layers of a loop pedal, by the level engine: each sample's headroom goes in, a tap starts a layer, and the mixer gets the gain of each layer. In a
+   pedal the samples come from the converter and the taps from a foot switch; here both stand in a table, and a log is printed. Only a mistake in this program
+   could make an assertion fail.
 
      cc -Iinclude examples/looper.c target/filkotar/libfilkotar.a -o looper */
 #include "filkotar.h"
@@ -16,7 +17,7 @@ static filkotar_answer engine;  /* the last answer: its session goes into the ne
 static uint32_t layers[LAYERS]; /* the positions of the active marks, the oldest first */
 static int count;
 
-/* headroom in quarter decibels, and what the foot does in that sample: T taps, D drops the oldest layer */
+/* headroom in quarter decibels, and what the player does in that sample: T taps, D drops the oldest layer */
 static const struct { int32_t headroom; const char *foot; } samples[] = {
     {40, ""}, {36, "T"}, {12, ""}, {-3, ""}, {20, "TT"}, {18, "T"}, {31, "T"}, {-11, "T"}, {-11, "T"}, {25, "T"}, {9, "T"}, {4, "T"},
     {22, "DDDDDD"}, {-2, "TDDDT"}, {15, "T"}, {-250, "T"}, {28, "T"}, {-1, "D"}
@@ -67,7 +68,8 @@ static void mix(void)
     for (int n = 0; n < count; n++) {
         engine = filkotar_query(engine.session, area, WORDS, layers[n]);
         assert(engine.number == FILKOTAR_ACCEPTED);
-        printf("%" PRIu32 ": layer %" PRIu32 " dips to %" PRId32 " at %" PRIu32 ", gain %u\n", engine.session.present, layers[n], engine.value, engine.place, filkotar_gain(engine.value));
+        printf("%" PRIu32 ": layer %" PRIu32 " dips to %" PRId32 " at %" PRIu32 ", gain %" PRIu16 "\n", engine.session.present, layers[n],
+            engine.value, engine.place, filkotar_gain(engine.value));
     }
 }
 

@@ -1,9 +1,9 @@
 /* The engine, lent right and wrong: openings of every outcome; three boards that are played together, whose calls are lent the words as they were left, or more, fewer or none; then sessions that no
    call returned, on words that no call left. Of each call is printed what its promise fixes, and '-' for what that leaves open. tests/engine_c.py works out the same lines.
 
-   Beside the lent words stand others, which are compared after each call, and the memory ends with pages that cannot be touched. What is promised of all calls alike is looked at here, and where it
-   is broken a line says so that is not stored: the words beside stay; a refusal and a Query give the session back as it was, whatever its numbers, and write no word; nothing is shown but by a Query
-   that is accepted.
+   Beside the lent words stand others, which are compared after each call, and at both ends of the memory pages that cannot be read. What is promised of all calls alike is looked at here, and where
+   it is broken a line says so that is not stored: the words beside stay; a refusal and a Query give the session back as it was, whatever its numbers, and write no word; nothing is shown but by a
+   Query that is accepted.
 
    Of the last part only counts and digests of the lines are stored. With the argument `calls` the lines are printed too, as tests/engine_c.py prints them with that argument. */
 #define _DEFAULT_SOURCE
@@ -23,7 +23,7 @@ static filkotar_answer (*const engine_mark)(filkotar_session, uint64_t *, uint64
 static filkotar_answer (*const engine_query)(filkotar_session, const uint64_t *, uint64_t, uint32_t) = filkotar_query;
 static filkotar_answer (*const engine_close)(filkotar_session, uint64_t *, uint64_t, uint32_t) = filkotar_close;
 
-/* THE MEMORY, in words: a page that cannot be touched, what the longest area and some words on both sides take, and such a page again. As it was before a call it is kept, and before an opening. */
+/* THE MEMORY, in words: what the longest area and some words on both sides take, between two pages that cannot be read. It is kept as it was before a call, and before an opening. */
 enum { PAGE = 512, AROUND = 64, LONGEST = 512 + 64 * 4096 + 64, MEMORY = (LONGEST + 2 * AROUND + PAGE - 1) / PAGE * PAGE };
 
 static uint64_t *memory, before[MEMORY], opened[MEMORY];
