@@ -47,7 +47,8 @@ def changes():
 
 
 LINES = {'gain': some, 'every': changes}
-if len(sys.argv) != 2 or sys.argv[1] not in LINES:
-    sys.exit(__doc__)
-for line in LINES[sys.argv[1]]():
-    print(*line)
+if __name__ == '__main__':
+    if len(sys.argv) != 2 or sys.argv[1] not in LINES:
+        sys.exit(__doc__)
+    for line in LINES[sys.argv[1]]():
+        print(*line)
