@@ -1,2 +1,4 @@
 pub mod Calling
 pub mod Existing
+pub mod Cited
+pub mod Applied
