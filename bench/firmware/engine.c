@@ -1,0 +1,55 @@
+/* A firmware that uses the level engine and nothing else of the library. tools/bench-firmware compiles it, looks up how much of the library is linked with it, and prints what it prints:
+   of each number of marks the words that they take. It ends with 1 where so many words do not hold so many marks, or one word fewer does. */
+#include "filkotar.h"
+
+#include <inttypes.h>
+#include <stdio.h>
+
+static uint64_t area[FILKOTAR_WORDS(4096)];
+
+/* How many marks there can be in `length` words: marks, each at a position of its own, until one is refused. The last that was accepted is then told and closed. */
+static uint64_t held(uint64_t length)
+{
+    filkotar_answer a = filkotar_open(area, length);
+    uint64_t marks = 0;
+    uint32_t last = 0;
+
+    if (a.number != FILKOTAR_ACCEPTED) {
+        return 0;
+    }
+    for (;;) {
+        a = filkotar_value(a.session, area, length, (int32_t)marks);
+        a = filkotar_mark(a.session, area, length);
+        if (a.number != FILKOTAR_ACCEPTED) {
+            break;
+        }
+        last = a.session.present;
+        marks++;
+    }
+    if (a.number != FILKOTAR_FULL || a.session.active != marks) {
+        return 0;
+    }
+    a = filkotar_query(a.session, area, length, last);
+    if (a.number != FILKOTAR_ACCEPTED || a.place != last) {
+        return 0;
+    }
+    a = filkotar_close(a.session, area, length, last);
+    return a.number == FILKOTAR_ACCEPTED ? marks : 0;
+}
+
+int main(void)
+{
+    static const uint64_t numbers[] = {1, 8, 60, 4096};
+    size_t n;
+
+    for (n = 0; n < sizeof numbers / sizeof numbers[0]; n++) {
+        uint64_t words = FILKOTAR_WORDS(numbers[n]);
+
+        if (held(words) != numbers[n] || held(words - 1) != numbers[n] - 1) {
+            return 1;
+        }
+        printf("%" PRIu64 " %" PRIu64 " %" PRIu64 "\n", numbers[n], words, (uint64_t)sizeof area[0] * words);
+    }
+    printf("%u %u\n", (unsigned)sizeof(filkotar_session), (unsigned)sizeof(filkotar_answer));
+    return 0;
+}
