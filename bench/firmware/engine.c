@@ -1,5 +1,5 @@
 /* A firmware that uses the level engine and nothing else of the library. tools/bench-firmware compiles it, looks up how much of the library is linked with it, and prints what it prints:
-   of each number of marks the words that they take. It ends with 1 where so many words do not hold so many marks, or one word fewer does. */
+   of each number of marks the words and the bytes that they take, and last the bytes of a session and of an answer. It ends with 1 where an area holds another number of marks. */
 #include "filkotar.h"
 
 #include <inttypes.h>
@@ -46,6 +46,7 @@ int main(void)
         uint64_t words = FILKOTAR_WORDS(numbers[n]);
 
         if (held(words) != numbers[n] || held(words - 1) != numbers[n] - 1) {
+            fprintf(stderr, "%" PRIu64 " words hold another number of marks than %" PRIu64 ", or one word fewer does not hold one fewer\n", words, numbers[n]);
             return 1;
         }
         printf("%" PRIu64 " %" PRIu64 " %" PRIu64 "\n", numbers[n], words, (uint64_t)sizeof area[0] * words);
