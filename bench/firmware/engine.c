@@ -7,7 +7,7 @@
 
 static uint64_t area[FILKOTAR_WORDS(4096)];
 
-/* How many marks there can be in `length` words: marks, each at a position of its own, until one is refused. The last that was accepted is then told and closed. */
+/* How many marks `length` words hold: positions are marked, one after another, until a mark is refused. The last that was accepted is then queried and closed. */
 static uint64_t held(uint64_t length)
 {
     filkotar_answer a = filkotar_open(area, length);
