@@ -1,10 +1,10 @@
 // The level engine against a plain Rust program with a `Vec` for the stack and a `HashMap` for the marks: the same replies, the time and the instructions of a command, and the longest calls.
-// tools/bench-engine builds this with looped.rt.txt, and runs it; docs/BENCH.md says what is measured.
+// tools/bench-engine builds this with the library for C and with looped.rt.txt, and runs it; docs/BENCH.md says what is measured.
 use std::collections::{BTreeSet, HashMap, VecDeque};
 use std::hint::black_box;
 use std::time::Instant;
 
-// What looped.rt.txt has for C.
+// What include/filkotar.h has: filkotar_session and filkotar_answer.
 #[repr(C)]
 #[derive(Clone, Copy, Debug, PartialEq)]
 pub struct Session {
@@ -18,13 +18,14 @@ pub struct Session {
 
 #[repr(C)]
 #[derive(Clone, Copy)]
-pub struct Outcome {
+pub struct Answer {
     session: Session,
     number: u32,
     value: i32,
     place: u32,
 }
 
+// What looped.rt.txt has.
 #[repr(C)]
 pub struct Ran {
     session: Session,
@@ -32,11 +33,11 @@ pub struct Ran {
 }
 
 extern "C" {
-    fn bench_open(area: *mut u64, length: u64) -> Outcome;
-    fn bench_value(s: Session, area: *mut u64, length: u64, v: i32) -> Outcome;
-    fn bench_mark(s: Session, area: *mut u64, length: u64) -> Outcome;
-    fn bench_query(s: Session, area: *const u64, length: u64, i: u32) -> Outcome;
-    fn bench_close(s: Session, area: *mut u64, length: u64, i: u32) -> Outcome;
+    fn filkotar_open(area: *mut u64, length: u64) -> Answer;
+    fn filkotar_value(s: Session, area: *mut u64, length: u64, v: i32) -> Answer;
+    fn filkotar_mark(s: Session, area: *mut u64, length: u64) -> Answer;
+    fn filkotar_query(s: Session, area: *const u64, length: u64, i: u32) -> Answer;
+    fn filkotar_close(s: Session, area: *mut u64, length: u64, i: u32) -> Answer;
     // gives the engine each command of a stream, in a loop of Rattle
     fn bench_run(s: Session, area: *mut u64, length: u64, stream: *const u64, commands: u64) -> Ran;
 }
@@ -90,7 +91,7 @@ impl Ours {
     }
 
     fn open(&mut self) {
-        let answer = unsafe { bench_open(self.area.as_mut_ptr(), self.area.len() as u64) };
+        let answer = unsafe { filkotar_open(self.area.as_mut_ptr(), self.area.len() as u64) };
         assert_eq!(answer.number, 0, "the opening is refused");
         self.session = answer.session;
     }
@@ -100,10 +101,10 @@ impl Ours {
         let (s, area, length, i) = (self.session, self.area.as_mut_ptr(), self.area.len() as u64, word as u32);
         let answer = unsafe {
             match kind_of(word) {
-                VALUE => bench_value(Session { present: s.present.wrapping_add(skip_of(word)), ..s }, area, length, value_of(word)),
-                MARK => bench_mark(s, area, length),
-                QUERY => bench_query(s, area, length, i),
-                _ => bench_close(s, area, length, i),
+                VALUE => filkotar_value(Session { present: s.present.wrapping_add(skip_of(word)), ..s }, area, length, value_of(word)),
+                MARK => filkotar_mark(s, area, length),
+                QUERY => filkotar_query(s, area, length, i),
+                _ => filkotar_close(s, area, length, i),
             }
         };
         self.session = answer.session;
