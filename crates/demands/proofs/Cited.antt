@@ -22,8 +22,8 @@ use Rattle.history.specs.Traces.{AllTraced, traces, refusals}
 use Rattle.history.proofs.Worked as worked
 use Rattle.history.proofs.Lowest as minima
 use Rattle.history.proofs.Following as following
-use Rattle.runs.specs.Runs.{Call, Made}
-use Rattle.engine.specs.Demand.{Answered, Demand3}
+use Rattle.runs.proofs.Calling.{made_follows}
+use Rattle.engine.specs.Demand.{Demand3}
 use Rattle.engine.specs.Promises.{Demand1}
 use Rattle.engine.specs.Consequences.{EveryRun, OnlyFours, AllGiven}
 use Rattle.engine.specs.Calls.{Opens, Does}
@@ -142,13 +142,6 @@ apply_of = tied.apply_of
 called : (s : Session) (c : Command) (lent left : List ℕ) (r : Answer) → Does s c lent left r → Called s c lent left r
 called s c lent left r d = inl (own_of s c lent left r d)
 
--- calls of which one thing is known are calls of which what follows from it is known
-made_called : (n : ℕ) (s : Session) (words : List ℕ) (cs : List (Call model)) → Made model (Answered Does) n s words cs → Made model (Answered Called) n s words cs
-made_called n s words [] m = tt
-made_called n s words (c ∷ cs) m =
-    let a = m.1 in
-    (m.0, (a.0, called s c.command c.lent c.left a.0 a.1, a.2, a.3), made_called n c.session _ cs m.2)
-
 -- so the hypotheses of `demand_3` are met by the runs
 pub run_called : (n : ℕ) (ls : List Line) (r : Session) → RunExists n ls Opens Does r → RunExists n ls Opened Called r
 run_called n ls r x = record {
@@ -158,7 +151,7 @@ run_called n ls r x = record {
   calls = x.calls;
   opened = opened_of x.first x.left x.o x.opened;
   tells = x.tells;
-  made = made_called _ x.o.session x.left x.calls x.made;
+  made = made_follows (λ s c a. (a.0, called s c.command c.lent c.left a.0 a.1, a.2, a.3)) _ x.o.session x.left x.calls x.made;
   long = x.long;
   plays = x.plays;
   returned = x.returned;

@@ -1,15 +1,15 @@
 -- THE THEOREMS over the calls that C makes, each cited under its statement, so that none can be dropped, renamed or weakened to another statement unnoticed; and that the runs of `one_run` and
 -- `refused_run` meet the hypotheses of `Demand3InC` as it is stated of the functions.
 use mathlib.Core.Path.{◌≡◌}
-use mathlib.Core.List.{List, [], ◌∷◌}
+use mathlib.Core.List.{List}
 use Prim.Native.Nat.{ℕ, min}
 use Rattle.history.specs.declared.Session.{Session}
 use Rattle.history.specs.declared.Command.{Command}
-use Rattle.runs.specs.Runs.{Call, Made}
+use Rattle.runs.proofs.Calling.{made_follows}
 use Rattle.firmware.specs.declared.sessions.SessionNumbers.{SessionNumbers}
 use Rattle.firmware.specs.declared.sessions.AnswerNumbers.{AnswerNumbers}
 use Rattle.firmware.specs.Sessions.{standing_number, standing_from, session_from, numbers_of, OpensInNumbers, DoesInNumbers}
-use Rattle.firmware.specs.Demands.{model, Answered, Demand1InC, Demand3InC}
+use Rattle.firmware.specs.Demands.{Demand1InC, Demand3InC}
 use Rattle.firmware.proofs.Numbers as numbers
 use Rattle.firmware.proofs.Theorem as theorem
 use Rattle.firmware.proofs.Functions as functions
@@ -42,14 +42,7 @@ opened_of = tied.opened_of
 called_of : (s : SessionNumbers) (c : Command) (lent left : List ℕ) (r : AnswerNumbers) → DoesInNumbers s c lent left r → Called s c lent left r
 called_of = tied.called_of
 
--- THE RUN, of the functions themselves: calls of which one thing is known are calls of which what follows from it is known
-made_called : (n : ℕ) (s : SessionNumbers) (words : List ℕ) (cs : List (Call model)) → Made model (Answered DoesInNumbers) n s words cs → Made model (Answered Called) n s words cs
-made_called n s words [] m = tt
-made_called n s words (c ∷ cs) m =
-    let a = m.1 in
-    (m.0, (a.0, called_of s c.command c.lent c.left a.0 a.1, a.2, a.3), made_called n c.session _ cs m.2)
-
--- so the hypotheses of `demand_3` are met by the runs
+-- THE RUN, of the functions themselves: the hypotheses of `demand_3` are met by the runs
 pub run_called : (n : ℕ) (ls : List Line) (r : SessionNumbers) → RunExists n ls OpensInNumbers DoesInNumbers r → RunExists n ls Opened Called r
 run_called n ls r x = record {
   first = x.first;
@@ -58,7 +51,7 @@ run_called n ls r x = record {
   calls = x.calls;
   opened = opened_of x.first x.left x.o x.opened;
   tells = x.tells;
-  made = made_called _ x.o.session x.left x.calls x.made;
+  made = made_follows (λ s c a. (a.0, called_of s c.command c.lent c.left a.0 a.1, a.2, a.3)) _ x.o.session x.left x.calls x.made;
   long = x.long;
   plays = x.plays;
   returned = x.returned;

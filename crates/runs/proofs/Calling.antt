@@ -6,7 +6,7 @@ use mathlib.Core.Logic.{◌⊎◌}
 use Prim.Native.Nat.{ℕ}
 use lib.ListN.{length}
 use Rattle.laws.proofs.Tests.{clash}
-use Rattle.runs.specs.Runs.{Model, Call, words_after, state_after, AllAgree}
+use Rattle.runs.specs.Runs.{Model, Call, words_after, state_after, Made, AllAgree}
 use Rattle.runs.specs.Lists.{Line, lines_of, asked_of, worked, state_after_asked, last_session, Commanded}
 use Rattle.runs.proofs.Induction.{own_lent, other_lent}
 
@@ -43,6 +43,12 @@ module _ {M : Model} {did : M.Session → Call M → Type 0} where
           leaves = rw o m.leaves;
           long = m.long;
         }
+
+-- calls of which one thing is known are calls of which what follows from it is known
+pub made_follows : {M : Model} {did also : M.Session → Call M → Type 0} → ((s : M.Session) (c : Call M) → did s c → also s c)
+    → (n : ℕ) (s : M.Session) (words : List ℕ) (cs : List (Call M)) → Made M did n s words cs → Made M also n s words cs
+made_follows f n s words [] m = tt
+made_follows {M} f n s words (c ∷ cs) m = (m.0, f s c m.1, made_follows f n c.session (words_after M n words c) cs m.2)
 
 module _ (M : Model) (n : ℕ) (first : List ℕ) where
   -- calls that agree have the lines that the model makes of what they were asked
