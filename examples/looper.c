@@ -1,6 +1,7 @@
 /* The layers of a loop pedal, by the level engine: each sample's headroom goes in, a tap starts a layer, and the mixer gets the gain of each layer. In a
-   pedal the samples come from the converter and the taps from a foot switch; here both stand in a table, and a log is printed. Only a mistake in this program
-   could make an assertion fail.
+   pedal the samples come from the converter and the taps from a foot switch; here both stand in a table, and a log is printed. All calls are made from one
+   place: a foot switch that interrupts only notes its tap, and the sample loop makes the call, since one that is made between another and the keeping of its
+   answer would hand in an old session. Only a mistake in this program could make an assertion fail.
 
      cc -Iinclude examples/looper.c target/filkotar/libfilkotar.a -o looper */
 #include "filkotar.h"

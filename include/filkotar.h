@@ -5,7 +5,8 @@
  * README.md says what the proof rests on. It writes no memory but its own stack, its answer and, of those arrays, what the promise says, and keeps nothing
  * else between calls. The library needs no other.
  *
- * What a call takes, beside its arguments, its answer and its return address:
+ * What a call of the library for x86-64 takes, beside its arguments, its answer and its return address (docs/FIRMWARE.md has a Cortex-M's, and memory, code
+ * and time):
  *
  *                              bytes of stack    of these below the stack pointer    registers other than the general ones
  *     filkotar_build           8                 0                                   xmm0 xmm1 xmm2 xmm3 xmm4
@@ -80,11 +81,12 @@ enum {
  * written since the last call, and for the session that the last answer has. With l the most marks that were active at a time since the opening, every word
  * from area[512 + 64 * l] on holds what it held just before the opening. A value, a mark or a close that is accepted may write any word before these.
  *
- * A session holds the rest of what the engine knows. Hand in the one that the last answer has. Engines with sessions and words of their own do not disturb
- * one another.
+ * A session holds the rest of what the engine knows. Hand in the one that the last answer has. Calls of one engine come one after the other, each with the
+ * session of the answer before it; an interrupt handler makes none in between, which would hand in an old session. Engines with sessions and words of their
+ * own do not disturb one another, and their calls may run at the same time.
  *
- * In every call `area` points to `length` words, which nothing else uses while the call runs; but while a query runs, others may read them. Where `length` is
- * 0 it points to none, and may be a null pointer.
+ * In every call `area` points to `length` words, aligned as uint64_t is, which nothing else uses while the call runs; but while a query runs, others may
+ * read them. Where `length` is 0 it points to none, and may be a null pointer.
  */
 #define FILKOTAR_WORDS(k) (512 + 64 * (uint64_t)(k))
 
@@ -111,7 +113,7 @@ typedef struct {
     uint32_t place;           /* and its position; else 0 */
 } filkotar_answer;
 
-/* The layout that the library goes by. Compilers from C11 and C++11 on compare it. */
+/* The layout that the library goes by. Compilers from C11 and C++11 on compare the sizes, and GCC and clang the fields' places too. */
 #if defined(__cplusplus) && __cplusplus >= 201103L
 #define FILKOTAR_SAME(a, b) static_assert((a) == (b), "filkotar.h: the compiler lays out " #a " otherwise than the library")
 #elif defined(__STDC_VERSION__) && __STDC_VERSION__ >= 201112L
@@ -153,6 +155,7 @@ filkotar_answer filkotar_open(uint64_t *area, uint64_t length);
  * returns, and gives the number and the session that are told with it, where a standing above 3 counts as 3, FILKOTAR_CLOSED. Not promised then is
  *
  *     whether a position from 1 to s.present is an active mark;
+ *     which of the `length` words a value, a mark or a close with number 0 writes;
  *     which value and place a query with number 0 shows;
  *     what session.active is after a value, a mark or a close with number 0;
  *     where s.active is 4096 or more, whether a mark that has number 0 by its table gets 0 or 10.

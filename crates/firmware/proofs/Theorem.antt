@@ -15,7 +15,7 @@ use Rattle.history.specs.declared.Session.{Session}
 use Rattle.history.specs.declared.Command.{Command}
 use Rattle.history.specs.declared.Command.TheVariants.{Value, Mark, Query, Close}
 use Rattle.history.specs.Replies.{Told, told}
-use Rattle.history.specs.Histories.{History, opening, session_of}
+use Rattle.history.specs.Histories.{History, opening}
 use Rattle.history.specs.Histories as Paper
 use Rattle.runs.specs.Runs.{Call, words_after, state_after, Made, EachCall}
 use Rattle.engine.specs.Answers.{Answer}

@@ -22,6 +22,7 @@ use Rattle.history.specs.Replies.{numbered, accepted, showing, told}
 use Rattle.history.specs.Histories as Histories
 use Rattle.history.specs.Histories.{History, among}
 use Rattle.runs.specs.Runs.{is_own, Call, Made}
+use Rattle.runs.proofs.Calling.{made_follows}
 use Rattle.runs.specs.Lists.{told_to, commands_of, AllLent, state_after_all, words_after_all, last_session}
 use Rattle.window.specs.declared.Window.{Window}
 use Rattle.window.specs.Answers.{Answer}
@@ -88,17 +89,11 @@ run_called width n ls r x = record {
   calls = x.calls;
   opened = opened_of width x.first x.left x.o x.opened;
   tells = x.tells;
-  made = called _ _ _ x.calls x.made;
+  made = made_follows (λ s c a. (a.0, valued_of s c.command c.lent c.left a.0 a.1, a.2, a.3)) _ _ _ x.calls x.made;
   long = x.long;
   plays = x.plays;
   returned = x.returned;
 }
-  where
-    called : (n : ℕ) (s : Window) (words : List ℕ) (cs : List (Call model)) → Made model (Answered Does) n s words cs → Made model (Answered Valued) n s words cs
-    called n s words [] m = tt
-    called n s words (c ∷ cs) m =
-        let a = m.1 in
-        (m.0, (a.0, valued_of s c.command c.lent c.left a.0 a.1, a.2, a.3), called n c.session _ cs m.2)
 
 -- AFTER THE OPENING, of any width and words: the reply and N, W and the present position are the paper's, and so are the words as lent
 module _ (width : ℕ) (first left : List ℕ) (o : Answer) (q : Opened width first left o) where
