@@ -12,7 +12,7 @@ use lib.ListN.{length, get_or}
 use lib.Signed.{le_z}
 use borrow.Author.Tests.{eq-eqb, ne_eqb}
 use contract.Lifetimes.{Lfts}
-use denote.Ref.{MutBor, Bor}
+use denote.Ref.{MutBor, Bor, at_last, as_bor}
 use denote.Signature.{plain}
 use denote.Builtin.{SliceRefOf, SliceRefMutOf, u64, u32, i32}
 use denote.Struct.Field.{usize-field, u32-field, i32-field}
@@ -21,14 +21,17 @@ use Rattle.history.specs.declared.Standing.{Standing}
 use Rattle.history.specs.declared.Standing.TheVariants.{None, Unmarked, Marked, Closed}
 use Rattle.history.specs.declared.Command.{Command}
 use Rattle.history.specs.declared.Command.TheVariants.{Value, Mark, Query, Close}
-use Rattle.history.specs.Minima.{value_at, last_of}
+use Rattle.history.specs.Minima.{Least, value_at, last_of}
+use Rattle.history.specs.Minimum.{Minimum}
+use Rattle.history.specs.Replies.{numbered, showing}
 use Rattle.history.specs.Histories.{History, among, opening}
+use Rattle.history.specs.Histories as Paper
 use Rattle.runs.specs.Runs.{is_own, Call, Made, EachCall}
 use Rattle.engine.specs.Promises.{MarkNumber, OwnNumber}
 use Rattle.firmware.specs.declared.sessions.SessionNumbers.{SessionNumbers}
 use Rattle.firmware.specs.declared.sessions.AnswerNumbers.{AnswerNumbers}
-use Rattle.firmware.specs.Sessions.{standing_number, standing_from, session_from}
-use Rattle.firmware.specs.Demands.{session_with, plainly, model, Answered, OpeningAgrees, Meets}
+use Rattle.firmware.specs.Sessions.{standing_number, standing_from, session_from, told_numbers}
+use Rattle.firmware.specs.Demands.{session_with, plainly, model, Answered, Meets}
 use Rattle.firmware.specs.contracts.sessions.SessionNumbers as session-type
 use Rattle.firmware.specs.contracts.sessions.AnswerNumbers as answer-type
 use Rattle.firmware.specs.contracts.filkotar_open as open-function
@@ -102,6 +105,27 @@ query_asks_nothing κs s x i = tt
 
 close_asks_nothing : (κs : Lfts 1) (s : SessionNumbers) (x : MutBor (List ℕ)) (i : ℕ) → close-reads.Asked κs (s, (x, (i, tt)))
 close_asks_nothing κs s x i = tt
+
+-- what C is told by each is what the checker reads of its `ensures`, of the arguments, the answer and the words before and after
+opened_is : (first left : List ℕ) (r : AnswerNumbers)
+    → Opened first left r ≡ ((κs : Lfts 1) × (x : MutBor (List ℕ)) × open-reads.Learnt κs (at_last x first, tt) r (at_last x left, tt))
+opened_is first left r = refl
+
+module _ (s : SessionNumbers) (lent left : List ℕ) (r : AnswerNumbers) where
+  value_is : (v : ℤ) → Called s (Value v) lent left r
+      ≡ ((κs : Lfts 1) × (x : MutBor (List ℕ)) × value-reads.Learnt κs (s, (at_last x lent, (v, tt))) r (s, (at_last x left, (v, tt))))
+  value_is v = refl
+
+  mark_is : Called s Mark lent left r ≡ ((κs : Lfts 1) × (x : MutBor (List ℕ)) × mark-reads.Learnt κs (s, (at_last x lent, tt)) r (s, (at_last x left, tt)))
+  mark_is = refl
+
+  query_is : (i : Position) → Called s (Query i) lent left r
+      ≡ ((κs : Lfts 1) × (x : MutBor (List ℕ)) × query-reads.Learnt κs (s, (as_bor (at_last x lent), (i.0, tt))) r (s, (as_bor (at_last x lent), (i.0, tt))) × (left ≡ lent))
+  query_is i = refl
+
+  close_is : (i : Position) → Called s (Close i) lent left r
+      ≡ ((κs : Lfts 1) × (x : MutBor (List ℕ)) × close-reads.Learnt κs (s, (at_last x lent, (i.0, tt))) r (s, (at_last x left, (i.0, tt))))
+  close_is i = refl
 
 -- ON ANY NUMBERS AND ANY WORDS: an opening
 module _ (first left : List ℕ) (r : AnswerNumbers) (d : Opened first left r) where
@@ -212,22 +236,49 @@ module _ (s : SessionNumbers) (lent left : List ℕ) (r : AnswerNumbers) where
         let x = (demand_1.command s (Close i) lent left r d).accepted z in
         (x.0, x.1 ∙ ap (λ b. plainly 0 (session_with s.words s.limit x.0 s.present s.last (cond b 3 (min s.standing 3)))) (ne_eqb i.0 s.present e))
 
--- OVER THE WHOLE LIST. A point of a run: calls after an opening, of which the first has been made
+-- OVER THE WHOLE LIST of calls that were made after an opening: what the opening told and left, and then each call
 module _ (first left : List ℕ) (o : AnswerNumbers) (calls : List (Call model)) (q : Opened first left o)
     (m : Made model (Answered Called) (opening (length first)).history.words o.session left calls) where
   abbrev start : History
   start = (opening (length first)).history
 
-  opening_agrees : OpeningAgrees first left o
-  opening_agrees = (demand_3 first left o calls q m).0
+  opening_told : record { number = o.number; value = o.value; place = o.place } ≡ told_numbers (opening (length first)).tells
+  opening_told = (demand_3 first left o calls q m).0.tells
+
+  opening_six : o.session ≡ session_with start.words start.limit (length start.active) (length start.values) (last_of start.values) (standing_number start.standing)
+  opening_six = (demand_3 first left o calls q m).0.session
+
+  opening_as_lent : (i : ℕ) → 512 ≤ i → get_or left i 0 ≡ get_or first i 0
+  opening_as_lent = (demand_3 first left o calls q m).0.rest
+
+  opening_as_long : length left ≡ length first
+  opening_as_long = (demand_3 first left o calls q m).0.long
 
   each_call : EachCall model (Meets start.words first) start.words left start calls
   each_call = (demand_3 first left o calls q m).1
+
+-- what a call tells is the number, the value and the place that its function answered, and its session is the one that was returned
+told_answer : (s : SessionNumbers) (c : Call model) → Answered Called s c
+    → (r : AnswerNumbers) × Called s c.command c.lent c.left r × (c.told ≡ record { number = r.number; value = r.value; place = r.place }) × (c.session ≡ r.session)
+told_answer s c a = a
+
+-- and the bookkeeper tells the paper's number, and the value and the place that are shown, or zeros. His N is the paper's
+told_plainly : (n : ℕ) → told_numbers (numbered n) ≡ record { number = n; value = pos 0; place = 0 }
+told_plainly n = refl
+
+told_shown : (m : Minimum) → told_numbers (showing m) ≡ record { number = 0; value = m.value; place = m.place.0 }
+told_shown m = refl
+
+paper_words : (h : History) → model.words h ≡ h.words
+paper_words h = refl
 
 -- what `Meets` says of one call: after it the session's numbers are the paper's
 module _ (n : ℕ) (first now : List ℕ) (h later : History) (c : Call model) (x : Meets n first now h later c) where
   six_numbers : c.session ≡ session_with later.words later.limit (length later.active) (length later.values) (last_of later.values) (standing_number later.standing)
   six_numbers = x.agrees.session
+
+  told_as_paper : c.told ≡ told_numbers (Paper.model.tells h (length c.lent) c.command)
+  told_as_paper = x.agrees.tells
 
   as_lent : (i : ℕ) → 512 + 64 * later.peak ≤ i → get_or now i 0 ≡ get_or first i 0
   as_lent = x.agrees.rest
@@ -244,6 +295,9 @@ module _ (n : ℕ) (first now : List ℕ) (h later : History) (c : Call model) (
 
   query_active : (i : Position) → c.command ≡ Query i → c.told.number ≡ 0 → among i h.active ≡ true
   query_active i e z = (x.shown i e z).0
+
+  query_shown : (i : Position) → c.command ≡ Query i → c.told.number ≡ 0 → Least h.values i (record { value = c.told.value; place = record { 0 = c.told.place } })
+  query_shown i e z = (x.shown i e z).1
 
   full_at : c.command ≡ Mark → (h.words ≡ 0 → ⊥) → length c.lent ≡ h.words → h.standing ≡ Unmarked → length h.active ≡ h.limit → c.told.number ≡ 10
   full_at e z l u = (x.full e z l u).1
