@@ -1,21 +1,31 @@
 #!/usr/bin/env python3
-"""Write the engine's command bytes for commands given as text, one to a line:
+"""usage: commands.py [-k] [FILE]
+
+Writes the engine's command bytes, which the stream program reads, for commands given as text, one to a line:
 
   V 12    Value: 01 and the value, from -2147483648 to 2147483647
   M       Mark:  02
   Q 1     Query: 03 and a position, from 0 to 4294967295
   C 1     Close: 04 and a position, from 0 to 4294967295
 
-Arguments are whole decimal numbers, and become four bytes, least significant first.
-Blank lines and lines that start with # are skipped.
+Without FILE, or where it is -, standard input is read. Arguments are whole decimal numbers, with - or − for minus, and become four bytes, least significant first. Blank lines and lines that
+start with # are skipped.
 
-A bad line writes no bytes, and its number and what is wrong with it go to standard error.
-The lines after it are still written, and the exit status is then 1. It is 2 where the file cannot be read.
+Where a line is bad nothing is written: the number of each bad line, and what is wrong with it, go to standard error, and the exit status is 1.
+
+  -k      the good lines are written all the same. A Value that drops out shifts all later positions
+
+The stream program reads no more than 16384 bytes. The commands that fit are written; where there are more, the line on which the limit falls goes to standard error, and the exit status is 3.
+It is 2 where the file cannot be read.
 """
-import argparse
-import re
-import signal
 import sys
+from typing import NamedTuple, Optional
+
+# no files of Python's own beside these
+sys.dont_write_bytecode = True
+from lines import BadLine, arguments, four_bytes, lines_of, listed, meant, number, run, write
+
+LIMIT = 16384
 
 # Of each letter: the kind byte, and the least and the greatest argument, or None where there is no argument.
 KINDS = {
@@ -26,69 +36,81 @@ KINDS = {
 }
 
 
-class BadLine(Exception):
-    """A line that is no command; its text says why."""
+class Command(NamedTuple):
+    """A command, and the number of the line that it stands on."""
+
+    line: int
+    letter: str
+    argument: Optional[int]
+
+    def bytes(self):
+        kind = bytes([KINDS[self.letter][0]])
+        return kind if self.argument is None else kind + four_bytes(self.argument)
+
+    def __str__(self):
+        return self.letter if self.argument is None else f'{self.letter} {self.argument}'
 
 
-def number(word, least, greatest):
-    """The whole number that a word writes, from least to greatest."""
-    found = re.fullmatch('([+-]?)0*([0-9]+)', word)
-    if not found:
-        raise BadLine(f'{word!r} is not a whole number')
-    sign, digits = found.groups()
-    # No number in range has more than ten digits, and int() refuses those with thousands.
-    if len(digits) > 10 or not least <= int(sign + digits) <= greatest:
-        raise BadLine(f'{word} is out of range: from {least} to {greatest}')
-    return int(sign + digits)
+class Stream(NamedTuple):
+    """What lines say: their commands, the bad lines, each with what is wrong with it, and the line on which the stream program's limit falls, or None."""
+
+    commands: list
+    bad: list
+    cut: Optional[int]
+
+    def bytes(self):
+        return b''.join(it.bytes() for it in self.commands)
+
+    def status(self):
+        """Says what is wrong with the lines; the exit status that tells it."""
+        listed(self.bad)
+        if self.cut is not None:
+            listed([(self.cut, f'the stream program reads no more than {LIMIT} bytes, and they end here: this line and all that follow are not run')])
+        return 1 if self.bad else 3 if self.cut is not None else 0
 
 
-def command(line):
-    """The bytes of a line's command; none of a blank line or a comment."""
+def command(at, line):
+    """The command of a line, or None where it is blank or a comment."""
     words = line.split()
     if not words or words[0].startswith('#'):
-        return b''
-    letter, arguments = words[0], words[1:]
+        return None
+    letter, given = words[0], words[1:]
     if letter not in KINDS:
-        raise BadLine(f'unknown command {letter!r}: it is V, M, Q or C')
-    kind, bounds = KINDS[letter]
+        raise BadLine(f'unknown command {letter!r}{meant(letter, KINDS) or ": it is V, M, Q or C"}')
+    bounds = KINDS[letter][1]
     due = 0 if bounds is None else 1
-    if len(arguments) < due:
+    if len(given) < due:
         raise BadLine(f'{letter} takes an argument')
-    if len(arguments) > due:
+    if len(given) > due:
         raise BadLine(f'{letter} takes {"one argument" if due else "no argument"}')
-    if bounds is None:
-        return bytes([kind])
-    # Two's complement of 32 bits is the remainder by 2 ** 32; a number that is not negative is its own.
-    return bytes([kind]) + (number(arguments[0], *bounds) % 2**32).to_bytes(4, 'little')
+    return Command(at, letter, None if bounds is None else number(given[0], *bounds))
 
 
-def write(lines, out, errors):
-    """Write the bytes of the good lines, and a message for each bad one. How many were bad."""
-    bad = 0
+def read(lines):
+    """What the lines say, up to the one on which the limit falls."""
+    commands, bad, length = [], [], 0
     for at, line in enumerate(lines, start=1):
         try:
-            out.write(command(line.decode('utf-8', errors='replace')))
+            it = command(at, line)
         except BadLine as why:
-            print(f'line {at}: {why}', file=errors)
-            bad += 1
-    out.flush()
-    return bad
+            bad.append((at, why))
+            continue
+        if it is None:
+            continue
+        length += len(it.bytes())
+        if length > LIMIT:
+            return Stream(commands, bad, at)
+        commands.append(it)
+    return Stream(commands, bad, None)
 
 
-def main():
-    parser = argparse.ArgumentParser(description=__doc__, formatter_class=argparse.RawDescriptionHelpFormatter)
-    parser.add_argument('file', nargs='?', help='the file to read; without it, standard input')
-    name = parser.parse_args().file
-    # A reader that has seen enough ends this program, as it does others in a pipe.
-    signal.signal(signal.SIGPIPE, signal.SIG_DFL)
-    try:
-        lines = sys.stdin.buffer if name is None else open(name, 'rb')
-    except OSError as why:
-        print(f'{name}: {why.strerror}', file=sys.stderr)
-        return 2
-    with lines:
-        return 1 if write(lines, sys.stdout.buffer, sys.stderr) else 0
+def main(given):
+    asked, files = arguments(given, __doc__, flags=['-k'])
+    stream = read(lines_of(*files or ['-']))
+    if not stream.bad or '-k' in asked:
+        write(stream.bytes())
+    return stream.status()
 
 
 if __name__ == '__main__':
-    sys.exit(main())
+    run(main)

@@ -10,17 +10,16 @@ Write the input of `lookup` for a take and requests given as text, one item to a
   rough 0 63 9   a rough reading from one place to another, with a budget of looks from 0 to 4294967295
   set 1 -12      make an entry of the index another value
 
-First come the values, then the index's length, then the requests, and all of them are 65536 bytes at most. FILE is - for standard input. Numbers are whole decimal numbers; they become four
+First come the values, then the index's length, then the requests, and all of them are 65536 bytes at most. FILE is - for standard input. Numbers are whole decimal numbers, with - or − for minus; they become four
 bytes each, least significant first. A request has a kind byte before its numbers and, where they are two, four zero bytes behind them. Blank lines and lines that start with # are skipped.
 
 Where a line is bad nothing is written: its number and what is wrong with it go to standard error, and the exit status is 1. It is 2 where the file cannot be read.
 """
-import signal
 import sys
 
 # no files of Python's own beside these
 sys.dont_write_bytecode = True
-from commands import BadLine, number
+from lines import BadLine, arguments, four_bytes, lines_of, listed, meant, number, run, write
 
 VALUE = (-2**31, 2**31 - 1)
 NUMBER = (0, 2**32 - 1)
@@ -40,11 +39,6 @@ REQUESTS = {
 
 class TooMuch(BadLine):
     """A line behind which no more are read."""
-
-
-def four_bytes(n):
-    # Two's complement of 32 bits is the remainder by 2 ** 32; a number that is not negative is its own.
-    return (n % 2**32).to_bytes(4, 'little')
 
 
 class Take:
@@ -91,60 +85,42 @@ class Take:
         self.requests.append(bytes([kind]) + b''.join(map(four_bytes, [*numbers, 0][:3])))
 
     def line(self, line):
-        words = line.decode('utf-8', errors='replace').split()
+        words = line.split()
         if not words or words[0].startswith('#'):
             return
         if words[0] == 'index':
             self.index(words[1:])
         elif words[0] in REQUESTS:
             self.request(words[0], words[1:])
-        elif len(words) == 1:
+        elif len(words) == 1 and not meant(words[0], ['index', *REQUESTS]):
             self.value(words[0])
         else:
-            raise BadLine(f'unknown item {words[0]!r}: it is a value alone, or index, search, stretch, rough or set')
+            raise BadLine(f'unknown item {words[0]!r}{meant(words[0], ["index", *REQUESTS]) or ": it is a value alone, or index, search, stretch, rough or set"}')
 
 
-def read(lines, errors):
-    """What the lines say, and how many were bad, each of which gets a message."""
+def read(lines):
+    """What the lines say, and the bad ones, each with what is wrong with it."""
     take = Take()
-    bad = 0
+    bad = []
     for at, line in enumerate(lines, start=1):
         try:
             take.line(line)
         except BadLine as why:
-            print(f'line {at}: {why}', file=errors)
-            bad += 1
+            bad.append((at, why))
             if isinstance(why, TooMuch):
                 break
     return take, bad
 
 
-def main(arguments):
-    if arguments == ['--help']:
-        print(__doc__.rstrip())
-        return 0
-    if len(arguments) != 1:
-        print(__doc__.splitlines()[0], file=sys.stderr)
-        return 2
-    # A reader that has seen enough ends this program, as it does others in a pipe.
-    signal.signal(signal.SIGPIPE, signal.SIG_DFL)
-    file, name = (0, 'standard input') if arguments[0] == '-' else (arguments[0], arguments[0])
-    try:
-        with open(file, 'rb') as text:
-            take, bad = read(text, sys.stderr)
-    except OSError as why:
-        print(f'{name}: {why.strerror}', file=sys.stderr)
-        return 2
+def main(given):
+    name, = arguments(given, __doc__, least=1)[1]
+    take, bad = read(lines_of(name))
     if bad:
+        listed(bad)
         return 1
-    try:
-        with open(1, 'wb') as out:
-            out.write(take.bytes())
-    except OSError as why:
-        print(f'standard output: {why.strerror}', file=sys.stderr)
-        return 1
+    write(take.bytes())
     return 0
 
 
 if __name__ == '__main__':
-    sys.exit(main(sys.argv[1:]))
+    run(main)

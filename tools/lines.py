@@ -1,0 +1,139 @@
+"""What the tools that are written in Python have in common: lines of text and the numbers in them, arguments, and how each of them ends.
+
+A tool that fails says why in one line on standard error, and its status is not 0: 1 where something in it or in its input is wrong, 2 where an argument is, or a file cannot be read.
+"""
+import io
+import os
+import re
+import signal
+import sys
+
+
+class BadLine(Exception):
+    """A line that is not what it should be; its text says why."""
+
+
+class Failed(Exception):
+    """Why a tool cannot go on, in one line, or None where that is said already; and its status."""
+
+    def __init__(self, why, status=1):
+        super().__init__(why)
+        self.status = status
+
+
+class Done(Exception):
+    """A tool has said all that it was asked for."""
+
+
+def number(word, least, greatest):
+    """The whole number that a word writes, from least to greatest. The minus sign is - or −."""
+    found = re.fullmatch('([-+\u2212]?)0*([0-9]+)', word)
+    if not found:
+        dash = '; its minus sign is - or \u2212, and this is another dash' if re.fullmatch('[\u2010-\u2015\ufe58\ufe63\uff0d][0-9]+', word) else ''
+        raise BadLine(f'{word!r} is not a whole number{dash}')
+    sign, digits = found.groups()
+    # No number in range has more than ten digits, and int() refuses those with thousands.
+    value = int(digits) if len(digits) <= 10 else None
+    if value is None or not least <= (value if sign in ('', '+') else -value) <= greatest:
+        raise BadLine(f'{word} is out of range: from {least} to {greatest}')
+    return value if sign in ('', '+') else -value
+
+
+def four_bytes(n):
+    """A number or a value as four bytes, least significant first."""
+    # Two's complement of 32 bits is the remainder by 2 ** 32; a number that is not negative is its own.
+    return (n % 2**32).to_bytes(4, 'little')
+
+
+def meant(word, known):
+    """What to say of a word that is none of those known: which of them was meant, if one was."""
+    for it in known:
+        if word.lower() == it.lower():
+            return f": did you mean '{it}'?"
+        if re.fullmatch(f'{it}[-+\u2212]?[0-9]+', word, re.IGNORECASE):
+            return f": did you mean '{it} {word[len(it):]}'?"
+    return ''
+
+
+def text_of(stream):
+    """The text of a stream of bytes: a byte-order mark is dropped, and the ends of its lines may be those of any system."""
+    return io.TextIOWrapper(stream, encoding='utf-8-sig', errors='replace', newline=None)
+
+
+def lines_of(name):
+    """The lines of a file, or of standard input where the name is -, as they come."""
+    try:
+        if name == '-' and sys.stdin is None:
+            raise Failed('standard input: it is closed', 2)
+        with text_of(sys.stdin.buffer if name == '-' else open(name, 'rb')) as lines:
+            for at, line in enumerate(lines, start=1):
+                if at == 1 and '\0' in line:
+                    raise Failed(f'{shown(name)}: this is no text in UTF-8', 2)
+                yield line
+    except OSError as why:
+        raise Failed(f'{shown(name)}: {why.strerror}', 2) from None
+
+
+def shown(name):
+    return 'standard input' if name == '-' else name
+
+
+def listed(bad):
+    """Says of each bad line its number and what is wrong with it."""
+    for at, why in bad:
+        print(f'line {at}: {why}', file=sys.stderr)
+
+
+def arguments(given, usage, flags=(), most=1, least=0):
+    """Of the arguments, those that are among the flags, and the others, which are at least so many and at most so many. Where they ask for help, the usage is printed, and the tool ends."""
+    if '--help' in given or '-h' in given:
+        write(usage.strip() + '\n')
+        raise Done
+    asked, others = set(), []
+    for it in given:
+        if it in flags:
+            asked.add(it)
+        elif it.startswith('-') and it != '-' and not re.fullmatch('-[0-9]+', it):
+            raise Failed(f'{it} is no argument that is known: --help tells them', 2)
+        else:
+            others.append(it)
+    if len(others) > most:
+        raise Failed(f'there is an argument too many, {others[most]}: --help tells them', 2)
+    if len(others) < least:
+        raise Failed(f'an argument is missing: {usage.strip().splitlines()[0]}', 2)
+    return asked, others
+
+
+def write(data):
+    """Writes bytes, or text, to standard output."""
+    sys.stdout.buffer.write(data if isinstance(data, bytes) else data.encode())
+    sys.stdout.buffer.flush()
+
+
+def run(main):
+    """Runs a tool's `main` on its arguments, and ends with its status."""
+    # A reader that has seen enough ends this program, as it does others in a pipe.
+    signal.signal(signal.SIGPIPE, signal.SIG_DFL)
+    tool = os.environ.get('TOOL') or os.path.basename(sys.argv[0])
+    try:
+        if sys.stdout is None:
+            raise Failed('standard output: it is closed')
+        try:
+            status = main(sys.argv[1:])
+            sys.stdout.flush()
+        except BrokenPipeError:
+            status = 141
+        except OSError as why:
+            raise Failed(f'standard output: {why.strerror}') from None
+    except Done:
+        status = 0
+    except Failed as why:
+        if why.args[0] is not None:
+            print(f'{tool}: {why}', file=sys.stderr)
+        status = why.status
+    except KeyboardInterrupt:
+        status = 130
+    if sys.stderr is not None:
+        sys.stderr.flush()
+    # What could not be written is not tried again.
+    os._exit(status)

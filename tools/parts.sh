@@ -1,0 +1,102 @@
+# What the tools that are written for bash have in common. A tool sets `usage`, whose first line is 'usage: ..', and sources this. It is then at the top of the repository where it says `cd "$top"`.
+# A tool that fails says why in one line on standard error, and its status is not 0: 1, or 2 where an argument is wrong.
+set -euo pipefail
+export TOOL="tools/${0##*/}"
+top=$(cd "$(dirname "$(readlink -f "$0")")/.." && pwd)
+
+failed() {
+    printf '%s: %s\n' "$TOOL" "$1" >&2
+    exit "${2-1}"
+}
+
+# the arguments are no flags but --help, and there are so many of them
+expect() {
+    local it
+    for it in "${@:2}"; do
+        case $it in
+            -h | --help) writable; printf '%s\n' "$usage"; exit 0 ;;
+            - | -[0-9]*) ;;
+            -*) failed "$it is no argument that is known: --help tells them" 2 ;;
+        esac
+    done
+    [ $# -gt "$1" ] || failed "an argument is missing: ${usage%%$'\n'*}" 2
+    [ $# -le $(($1 + 1)) ] || failed "there is an argument too many, ${@:$1+2:1}: --help tells them" 2
+}
+
+writable() {
+    { : 3>&1; } 2> /dev/null || failed 'standard output: it is closed'
+}
+
+python() {
+    command -v python3 > /dev/null || failed "there is no command 'python3' here: $1"
+}
+
+# Runs a program on standard input. No program tells by its status that its output could not be written; `cat` does.
+program() {
+    local path told status
+    writable
+    path=$("$top/tools/built" "$1" < /dev/null) || exit 1
+    exec 3>&1
+    set +e
+    told=$("$path" | cat 2>&1 >&3; exit "$((PIPESTATUS[1] ? PIPESTATUS[1] : PIPESTATUS[0]))")
+    status=$?
+    set -e
+    case $status in
+        0) ;;
+        127) failed "$1 ended with 127: it is built for x86-64-v2, and this processor is older" ;;
+        141) exit 141 ;;
+        *) [ -z "$told" ] || failed "standard output: ${told##*: }"
+           failed "$1 ended with $status" ;;
+    esac
+}
+
+# The crates that one is made of, itself among them, in the order of crates.txt.
+crates_of() {
+    tac crates.txt | awk -v crate="$1" '
+        BEGIN { wanted[crate] }
+        { name = $1; sub(/:$/, "", name) }
+        name in wanted { print name; sub(/^[^:]*:/, ""); for (n = 1; n <= NF; n++) wanted[$n] }' | tac
+}
+
+# Those of the crates that may have to be proved: nothing is built of them, or of a crate below, or a source is newer.
+unproved() {
+    local crate below built todo=' '
+    for crate in "$@"; do
+        built=$(find "crates/$crate/out" -type f -not -path '*/incremental/*' -print -quit 2> /dev/null || true)
+        below=$(crates_of "$crate")
+        for below in $below; do
+            [[ $todo != *" $below "* ]] || built=
+        done
+        if [ -z "$built" ] || [ -n "$(find "crates/$crate" -path "crates/$crate/out" -prune -o -type f -newer "$built" \( -name '*.rt' -o -name '*.antt' \) -print -quit)" ]; then
+            todo+="$crate "
+        fi
+    done
+    echo $todo
+}
+
+# prove CRATE COMMAND..: has rt prove and build a crate and those below it. Each is named as it is proved, with how many are left; where one is not, what rt says is shown.
+prove() {
+    local crate=$1 it todo said=() line count
+    command -v rt > /dev/null || failed "there is no command 'rt' here: the Rattle toolchain is needed to build $crate"
+    todo=$(crates_of "$crate")
+    for it in $todo; do
+        { mkdir -p "crates/$it/out" && [ -w "crates/$it/out" ]; } 2> /dev/null || failed "crates/$it/out cannot be written: $crate is not built"
+    done
+    todo=" $(unproved $todo) "
+    count=$(wc -w <<< "$todo")
+    if [ "$count" -gt 0 ]; then
+        echo "$TOOL: $crate is proved before it is built: crates to prove: $count, about $((count / 4 + 1)) min" >&2
+    fi
+    while IFS= read -r line; do
+        case $line in
+            'crate '*': modules '*) it=${line#crate } it=${it%%:*} ;;
+            'logic=proved '*' functions='* | 'logic=proved functions='*)
+                todo=${todo/ $it / }
+                echo "    proved: $it; left: $(wc -w <<< "$todo")" >&2
+                said=() ;;
+            'rt ends with '*) [ "$line" = 'rt ends with 0' ] || { printf '%s\n' "${said[@]}" >&2; failed "$crate is not built; rt said the above"; } ;;
+            'statements '* | 'library '* | 'logic '* | 'fn '*': proved' | 'struct '*': proved' | 'enum '*': proved' | 'impl '*': proved') ;;
+            *) said+=("$line") ;;
+        esac
+    done < <(cd "crates/$crate" && "${@:2}" < /dev/null 2>&1 && echo 'rt ends with 0' || echo 'rt ends with 1')
+}
