@@ -74,9 +74,11 @@ unproved() {
     echo $todo
 }
 
-# prove CRATE COMMAND..: has rt prove and build a crate and those below it. Each is named as it is proved, with how many are left; where one is not, what rt says is shown.
+# prove CRATE COMMAND..: has rt prove and build a crate and those below it. Each is named as it is proved, with how many are left; where one is not, what rt says is shown. `narrowed` is then what rt
+# says of the processors that it compiled for, where these are not all.
 prove() {
     local crate=$1 it todo said=() line count
+    narrowed=
     command -v rt > /dev/null || failed "there is no command 'rt' here: the Rattle toolchain is needed to build $crate"
     todo=$(crates_of "$crate")
     for it in $todo; do
@@ -90,10 +92,11 @@ prove() {
     while IFS= read -r line; do
         case $line in
             'crate '*': modules '*) it=${line#crate } it=${it%%:*} ;;
-            'logic=proved '*' functions='* | 'logic=proved functions='*)
+            'logic=proved '*)
                 todo=${todo/ $it / }
                 echo "    proved: $it; left: $(wc -w <<< "$todo")" >&2
-                said=() ;;
+                said=()
+                [[ $line != *' cpu='* ]] || narrowed=$line ;;
             'rt ends with '*) [ "$line" = 'rt ends with 0' ] || { printf '%s\n' "${said[@]}" >&2; failed "$crate is not built; rt said the above"; } ;;
             'statements '* | 'library '* | 'logic '* | 'fn '*': proved' | 'struct '*': proved' | 'enum '*': proved' | 'impl '*': proved') ;;
             *) said+=("$line") ;;

@@ -1,11 +1,14 @@
 #!/usr/bin/env python3
 """Tests of takes.py: run `python3 tools/test_takes.py`. The last line is 'N passed, M failed'."""
 import os
-import subprocess
 import sys
 import tempfile
 
-SCRIPT = os.path.join(os.path.dirname(os.path.abspath(__file__)), 'takes.py')
+# no files of Python's own beside these
+sys.dont_write_bytecode = True
+from checks import Checks, fails_to_write, one_line, refuses_arguments, right, run
+
+TOOL = 'takes.py'
 
 SEARCH = '01 00000000 00000000 00000000'
 
@@ -39,6 +42,8 @@ CASES = [
     (b'index 257\nindex -1\n', '', 1, ['line 1: 257 is out of range', 'line 2: -1 is out of range']),
     # spaces, signs, leading zeros, blank lines and comments
     (b'  5\t\r\n\n# a take\n+6\n  # its index\nindex  01\nsearch\t+0 00\n', '02000000 05000000 06000000 01000000' + SEARCH, 0, []),
+    # a byte-order mark, other ends of lines, and the other minus sign
+    (b'\xef\xbb\xbf5\r\n\xe2\x88\x926\rindex 1\r\nsearch 0 0', '02000000 05000000 faffffff 01000000' + SEARCH, 0, []),
     # the values, then the index, then the requests
     (b'1\nsearch 0 0\n2\n', '', 1, ['line 3: the value 2 stands behind a request']),
     (b'1\nindex 1\n2\n', '', 1, ['line 3: the value 2 stands behind the index']),
@@ -46,7 +51,7 @@ CASES = [
     (b'1\nindex 1\nindex 1\n', '', 1, ["line 3: the index's length is given already"]),
     # one bad line is enough, and nothing is written; each bad line has a message
     (b'1\nx\n2\n', '', 1, ["line 2: 'x' is not a whole number"]),
-    (b'1 2\nlook 0 0\nSearch 0 0\n', '', 1, ["line 1: unknown item '1'", "line 2: unknown item 'look'", "line 3: unknown item 'Search'"]),
+    (b'1 2\nlook 0 0\nSearch 0 0\n', '', 1, ["line 1: unknown item '1'", "line 2: unknown item 'look'", "line 3: unknown item 'Search': did you mean 'search'?"]),
     (b'rough\nrough 1\nrough 1 2\nrough 1 2 3 4\nrough 1 2 x\n', '', 1,
      ['line 1: rough takes three numbers', 'line 2: rough takes three numbers', 'line 3: rough takes three numbers', 'line 4: rough takes three numbers', "line 5: 'x' is not a whole number"]),
     (b'index\nindex 1 2\nsearch\nsearch 1\nsearch 1 2 3\nstretch 1\nset 1\nset 1 2 3\n', '', 1,
@@ -66,49 +71,23 @@ CASES = [
 ]
 
 
-def run(arguments, text):
-    return subprocess.run([sys.executable, SCRIPT, *arguments], input=text, capture_output=True)
-
-
-def right(result, code, out, messages):
-    said = result.stderr.decode().splitlines()
-    return (result.returncode == code and result.stdout == bytes.fromhex(out)
-            and len(said) == len(messages) and all(m in s for m, s in zip(messages, said)))
-
-
 def main():
-    passed = failed = 0
-
-    def check(what, good, result):
-        nonlocal passed, failed
-        if good:
-            passed += 1
-        else:
-            failed += 1
-            print('failed:', what, '\n ', str(result)[:2000])
-
+    checks = Checks()
     with tempfile.TemporaryDirectory() as folder:
         path = os.path.join(folder, 'take')
         for text, out, code, messages in CASES:
             with open(path, 'wb') as f:
                 f.write(text)
             # from standard input, and from a file
-            for result in (run(['-'], text), run([path], b'')):
-                check(text[:80], right(result, code, out, messages), result)
+            for result in (run(TOOL, ['-'], text), run(TOOL, [path])):
+                checks.check(text[:80], right(result, code, bytes.fromhex(out), messages), result)
         for name in (os.path.join(folder, 'absent'), folder):
-            result = run([name], b'')
-            check(name, right(result, 2, '', [f'{name}: ']), result)
-    for arguments in ([], ['-', '-']):
-        result = run(arguments, b'')
-        check(arguments, right(result, 2, '', ['usage: takes.py FILE']), result)
-    with open('/dev/full', 'wb') as full:
-        result = subprocess.run([sys.executable, SCRIPT, '-'], input=b'', stdout=full, stderr=subprocess.PIPE)
-    check('no room', result.returncode == 1 and result.stderr.startswith(b'standard output: ') and result.stderr.count(b'\n') == 1, result)
-    result = run(['--help'], b'')
-    check('--help', result.returncode == 0 and result.stdout.startswith(b'usage: takes.py FILE\n') and not result.stderr, result)
-    print(f'{passed} passed, {failed} failed')
-    return 1 if failed else 0
+            result = run(TOOL, [name])
+            checks.check(name, one_line(result, 2, f'{name}: '), result)
+    refuses_arguments(checks, TOOL, 'usage: takes.py FILE', [], ['-', '-'])
+    fails_to_write(checks, TOOL, ['-'])
+    checks.end()
 
 
 if __name__ == '__main__':
-    sys.exit(main())
+    main()

@@ -1,11 +1,14 @@
 #!/usr/bin/env python3
 """Tests of values.py: run `python3 tools/test_values.py`. The last line is 'N passed, M failed'."""
 import os
-import subprocess
 import sys
 import tempfile
 
-SCRIPT = os.path.join(os.path.dirname(os.path.abspath(__file__)), 'values.py')
+# no files of Python's own beside these
+sys.dont_write_bytecode = True
+from checks import Checks, fails_to_write, one_line, refuses_arguments, right, run
+
+TOOL = 'values.py'
 
 # W, what is read, the bytes that must be written in hexadecimal, the exit status, and a piece of each message on standard error, in order.
 CASES = [
@@ -18,6 +21,8 @@ CASES = [
     ('1', b'-2147483649\n2147483648\n', '', 1, ['line 1: -2147483649 is out of range', 'line 2: 2147483648 is out of range']),
     # spaces around a value, signs and leading zeros
     ('1', b'  5\t\r\n+6\n-0\n007\n', '01000000 02000000 05000000 06000000 00000000 07000000', 0, []),
+    # a byte-order mark, other ends of lines, and the other minus sign
+    ('1', b'\xef\xbb\xbf5\r\n\xe2\x88\x926\r7', '01000000 02000000 05000000 faffffff 07000000', 0, []),
     # one bad line is enough, and nothing is written
     ('2', b'3\nx\n4\n', '', 1, ["line 2: 'x' is not a whole number"]),
     ('2', b'3\n\n4\n \n', '', 1, ['line 2: there is no value', 'line 4: there is no value']),
@@ -42,49 +47,23 @@ CASES = [
 ]
 
 
-def run(arguments, text):
-    return subprocess.run([sys.executable, SCRIPT, *arguments], input=text, capture_output=True)
-
-
-def right(result, code, out, messages):
-    said = result.stderr.decode().splitlines()
-    return (result.returncode == code and result.stdout == bytes.fromhex(out)
-            and len(said) == len(messages) and all(m in s for m, s in zip(messages, said)))
-
-
 def main():
-    passed = failed = 0
-
-    def check(what, good, result):
-        nonlocal passed, failed
-        if good:
-            passed += 1
-        else:
-            failed += 1
-            print('failed:', what, '\n ', str(result)[:2000])
-
+    checks = Checks()
     with tempfile.TemporaryDirectory() as folder:
         path = os.path.join(folder, 'values')
         for width, text, out, code, messages in CASES:
             with open(path, 'wb') as f:
                 f.write(text)
             # from standard input, and from a file
-            for result in (run([width, '-'], text), run([width, path], b'')):
-                check((width, text[:80]), right(result, code, out, messages), result)
+            for result in (run(TOOL, [width, '-'], text), run(TOOL, [width, path])):
+                checks.check((width, text[:80]), right(result, code, bytes.fromhex(out), messages), result)
         for name in (os.path.join(folder, 'absent'), folder):
-            result = run(['1', name], b'')
-            check(name, right(result, 2, '', [f'{name}: ']), result)
-    for arguments in ([], ['1'], ['1', '-', '-']):
-        result = run(arguments, b'')
-        check(arguments, right(result, 2, '', ['usage: values.py W FILE']), result)
-    with open('/dev/full', 'wb') as full:
-        result = subprocess.run([sys.executable, SCRIPT, '1', '-'], input=b'', stdout=full, stderr=subprocess.PIPE)
-    check('no room', result.returncode == 1 and result.stderr.startswith(b'standard output: ') and result.stderr.count(b'\n') == 1, result)
-    result = run(['--help'], b'')
-    check('--help', result.returncode == 0 and result.stdout.startswith(b'usage: values.py W FILE\n') and not result.stderr, result)
-    print(f'{passed} passed, {failed} failed')
-    return 1 if failed else 0
+            result = run(TOOL, ['1', name])
+            checks.check(name, one_line(result, 2, f'{name}: '), result)
+    refuses_arguments(checks, TOOL, 'usage: values.py W FILE', [], ['1'], ['1', '-', '-'])
+    fails_to_write(checks, TOOL, ['1', '-'])
+    checks.end()
 
 
 if __name__ == '__main__':
-    sys.exit(main())
+    main()
