@@ -75,6 +75,7 @@ def rows(path):
 def traced(numbers):
     where = collections.defaultdict(list)
     for n, row in rows(TRACE):
+        check(len(row) in (3, 4) and all(row), f'{TRACE}, line {n}: a row of {len(row)} cells, or with an empty one')
         if len(row) == 4 and row[0] != '–':
             check(re.fullmatch(rf'{NUMBER}(, {NUMBER})*', row[0]), f'{TRACE}, line {n}: {row[0]} is no list of numbers')
             for number in re.findall(NUMBER, row[0]):
@@ -96,8 +97,8 @@ CRATES = sorted(os.path.basename(path) for path in glob.glob('crates/*'))
 
 @functools.cache
 def declared(path):
-    """What an .antt file declares: each name, and of records and types the names within."""
-    found, open_, comment = {}, [], r'\s*--'
+    """What an .antt file declares: each name, with the names within where it is a record's or a type's; and which of them stand within one alone."""
+    found, free, open_, comment = {}, set(), [], r'\s*--'
     for _, line in lines(path):
         if not line.strip() or re.match(comment, line) or line.startswith('use '):
             continue
@@ -109,9 +110,11 @@ def declared(path):
             found.setdefault(m[2], set())
             if open_:
                 found[open_[-1][1]].add(m[2])
+            else:
+                free.add(m[2])
             if m[1]:
                 open_.append((depth, m[2]))
-    return found
+    return found, found.keys() - free
 
 
 @functools.cache
@@ -158,13 +161,13 @@ class Names:
         return True
 
     def known(self, name):
-        """What is declared within a name at the place that was named last, or None where there is no such name."""
+        """What is declared within a name at the place that was named last, or None where there is no such name. A field is known behind its record alone."""
         if self.place == 'source':
             return source(self.crate).get(name)
         if isinstance(self.place, list):
-            for path in self.place:
-                if name in declared(path):
-                    return declared(path)[name]
+            for found, fields in map(declared, self.place):
+                if name in found and (name not in fields or name in found.get(self.record, ())):
+                    return found[name]
         return None
 
     def path(self, name):
