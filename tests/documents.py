@@ -54,7 +54,7 @@ def promised():
     check(len(found) == len(re.findall(rf'\*\*{NUMBER}\*\*', text(PROMISE))), f'{PROMISE}: a number stands elsewhere than before its sentence')
     for wanted in ['D1', 'D2', 'D3'] + list('12345678') + [f'P{n}' for n in range(1, 7)]:
         check(counted[wanted] > 0, f'{PROMISE}: section {wanted} has no sentence')
-    for remark in re.findall(rf'Changed by ([^:]*):', text(PROMISE)):
+    for remark in re.findall(r'Changed by ([^:]*):', text(PROMISE)):
         for number in re.findall(NUMBER, remark):
             check(number in found, f'{PROMISE}: a sentence is changed by {number}, which is none')
     return found
@@ -278,6 +278,7 @@ def paths():
     for f in kept:
         for n, line in lines(f):
             for m in re.finditer(r'(?<![\w./*-])(\.ci|docs|tools|tests|crates|examples|include|bench|(?:%s)/(?:specs|proofs|src|must-fail))/([\w./*-]*\w\*?)?' % '|'.join(CRATES), line):
+                # CRATE and FILE stand for any; the documents leave out crates/ and an .antt file's ending where they name one by its crate
                 path = re.sub(r'\b(CRATE|FILE)\b', '*', m[0]).rstrip('/')
                 here = any(glob.glob(p) for p in (path, f'{path}.antt', f'crates/{path}', f'crates/{path}.antt', f'crates/{path}.edit'))
                 check(here, f'{f}, line {n}: {m[0]} is not there')
