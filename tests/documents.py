@@ -5,6 +5,7 @@
 - What docs/TRACE.md names between backticks exists where it says, but for its notation: `CRATE FILE.name` in specs/ or proofs/ of the crate, `crate::name` in src/, a must-fail edit as `crate/edit`, a file by its path;
   and a name that stands alone in the crate and the file that were named last, in the same cell or item.
 - Its counts of lines are the counts: without imports and blank ones, and without specs/Lib.antt, the list of a crate's files; where a definition is named, its own lines with the comment above it.
+- README's table of replies has the words with which the tools say them, its price classes are as many words as a class has, and as many bytes, and its count of lines is docs/TRACE.md's.
 - The files that README.md and docs/ name by path exist. docs/changes/, docs/PORT.md and docs/DESIGN-PASS.md speak of the past and are left out.
 """
 import collections
@@ -13,6 +14,11 @@ import glob
 import os
 import re
 import sys
+
+# no files of Python's own beside these
+sys.dont_write_bytecode = True
+sys.path.insert(0, os.path.join(os.path.dirname(os.path.abspath(__file__)), '..', 'tools'))
+from replies import REPLIES
 
 PROMISE, TRACE = 'docs/PROMISE.md', 'docs/TRACE.md'
 PAST = ['docs/PORT.md', 'docs/DESIGN-PASS.md']
@@ -271,6 +277,20 @@ def counts():
         check(str(true) == row[1], f'{TRACE}, line {n}: {row[1]} lines; the count is {true}')
 
 
+# README'S TABLES
+
+def tables():
+    found = [row for _, row in rows('README.md') if len(row) == 3]
+    replies = [(int(a), (b, c)) for a, b, c in found if re.fullmatch('[0-9]+', a) and not re.fullmatch('[0-9,]+', b)]
+    check(replies == list(REPLIES.items()), f'README.md: its replies are not those of tools/replies.py: {[it for it in replies if it not in REPLIES.items()]}')
+    classes = [[int(re.match('[0-9,]+', it)[0].replace(',', '')) for it in row] for row in found if all(re.match('[0-9]', it) for it in row)]
+    check(len(classes) > 1, 'README.md: it has no price classes')
+    for taps, words, size in classes:
+        check(words == 512 + 64 * taps and size == 8 * words, f'README.md: the class of {taps} taps has {512 + 64 * taps} words, which are {8 * (512 + 64 * taps)} bytes')
+    page = next(row[1] for _, row in rows(TRACE) if len(row) == 3 and row[1].isdigit())
+    check(re.findall('one page of ([0-9]+) lines', text('README.md')) == [page], f'README.md: the page of demands 2 and 3 has {page} lines')
+
+
 # THE PATHS
 
 def paths():
@@ -289,6 +309,7 @@ def main():
     traced(numbers)
     named()
     counts()
+    tables()
     paths()
     print(f'{passed} passed, {failed} failed')
     return 1 if failed else 0

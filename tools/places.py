@@ -136,12 +136,17 @@ def point_8():
 
 def main():
     wanted = sys.argv[1:] or [str(n) for n in range(1, 9)]
+    if not set(wanted) <= set("12345678"):
+        print(__doc__ + "\nA point is a number from 1 to 8; without one, all are counted.")
+        return 0 if wanted == ["--help"] else 2
     for n in wanted:
         count = globals()[f"point_{n}"]
         places = list(count())
         print(f"{n}. {count.__doc__}: {len(places)}")
         for place in places:
             print(f"    {place}")
+    return 0
 
 
-main()
+if __name__ == "__main__":
+    sys.exit(main())

@@ -38,7 +38,7 @@ def in_words(line, command, present, room):
         return f'commands read: {words[1]}, accepted: {words[2]}; marks active: {words[3]}'
     number = int(words[2])
     if number != 0:
-        return f'refused with {number}: {refused(command.letter, command.argument, number, present, room)}'
+        return f'refused with {number}: {refused(number, command.argument, present, room)}'
     if command.letter == 'V':
         return f'headroom {decibels(command.argument)} at {present}{", clipping" if command.argument < 0 else ""}'
     if command.letter == 'M':

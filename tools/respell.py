@@ -1,5 +1,7 @@
 #!/usr/bin/env python3
-"""Brings the repository's own definitions and lemmas to the spelling of today's Rattle. Run once, at the root, after Rattle's port.py.
+"""usage: respell.py [--force] [--table]
+
+Brings the repository's own definitions and lemmas to the spelling of today's Rattle. Run once, at the root, after Rattle's port.py.
 
 A name in camel case that begins with a small letter gets words joined by `_`. A dash between plain words becomes `_`; it stays where each side is a definition that the
 statement names, or the right side is `append` and the statement has `++`. A file specs/Contracts.antt becomes specs/Calls.antt, as Rattle makes a module `specs.contracts`.
@@ -141,6 +143,9 @@ def turn_rt(text, turned, used):
 
 
 def main():
+    if not set(sys.argv[1:]) <= {"--force", "--table"}:
+        print(__doc__.strip())
+        return 0 if "--help" in sys.argv else 2
     root = subprocess.run(["git", "rev-parse", "--show-toplevel"], capture_output=True, text=True, check=True).stdout.strip()
     turned = table(root)
     written, bad = {}, []
