@@ -87,10 +87,15 @@ prove() {
     todo=" $(unproved $todo) "
     count=$(wc -w <<< "$todo")
     if [ "$count" -gt 0 ]; then
-        echo "$TOOL: $crate is proved before it is built: crates to prove: $count, about $((count / 4 + 1)) min" >&2
+        echo "$TOOL: $crate is proved before it is built: crates to prove: $count, from nothing about $((count / 4 + 1)) min" >&2
     fi
     while IFS= read -r line; do
         case $line in
+            'rt: '*': begins with what a check kept '*)
+                it=${line#rt: } it=${it%%:*}
+                todo=${todo/ $it / }
+                echo "    proved before: $it; left: $(wc -w <<< "$todo")" >&2 ;;
+            'rt: waiting '*) echo "    ${line#rt: }" >&2 ;;
             'crate '*': modules '*) it=${line#crate } it=${it%%:*} ;;
             'logic=proved '*)
                 todo=${todo/ $it / }

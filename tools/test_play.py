@@ -101,6 +101,9 @@ def typed(checks):
 # What an rt says that proves the crates named, and what it does, as a script.
 RT = '''#!/bin/sh
 echo called >> "$CALLS"
+for crate in $KEPT; do
+    echo "rt: $crate: begins with what a check kept in /elsewhere/$crate"
+done
 for crate in $PROVES; do
     echo "rt: chose --jobs 2 for $crate"
     echo "fn $crate::f: proved"
@@ -139,7 +142,7 @@ def built(checks):
         calls = os.path.join(folder, 'calls')
 
         def build(user=None, **settings):
-            names = {'PATH': commands, 'CALLS': calls, 'PROVES': 'low high', 'FAILS': '', 'NO_BINARY': ''}
+            names = {'PATH': commands, 'CALLS': calls, 'KEPT': '', 'PROVES': 'low high', 'FAILS': '', 'NO_BINARY': ''}
             return subprocess.run([os.path.join(folder, 'tools', 'built'), 'high'], capture_output=True, env={**names, **settings}, **({} if user is None else {'user': user, 'group': user, 'extra_groups': []}))
 
         def asked():
@@ -155,15 +158,15 @@ def built(checks):
         result = build(FAILS='1', PROVES='low')
         checks.check('no proof', result.returncode == 1 and result.stderr.endswith(b'no proof: f\ntools/built: high is not built; rt said the above\n') and b'statements' not in result.stderr, result)
         result = build()
-        checks.check('from nothing', right(result, 0, done, ['tools/built: high is proved before it is built: crates to prove: 2, about 1 min', '    proved: low; left: 1', '    proved: high; left: 0']), result)
+        checks.check('from nothing', right(result, 0, done, ['tools/built: high is proved before it is built: crates to prove: 2, from nothing about 1 min', '    proved: low; left: 1', '    proved: high; left: 0']), result)
         count = asked()
         result = build()
         checks.check('at once', right(result, 0, done, []) and asked() == count, result)
         result = build(PATH=commands.replace('commands', 'no_commands') + ':' + commands)
         checks.check('another PATH', right(result, 0, done, []) and asked() == count, result)
         os.unlink(path)
-        result = build()
-        checks.check('the program is gone', result.returncode == 0 and result.stdout == done and asked() == count + 1, result)
+        result = build(KEPT='low', PROVES='high')
+        checks.check('the program is gone', result.returncode == 0 and result.stdout == done and asked() == count + 1 and b'    proved before: low; left: 1\n    proved: high; left: 0\n' in result.stderr, result)
         with open(path, 'a') as f:
             f.write('# not what was built\n')
         result = build()
