@@ -1,6 +1,6 @@
 #!/usr/bin/env python3
-"""Tests of play and stream, and of built, which builds the programs: run `python3 tools/test_play.py`. The stream program is built, where it is not, and the toolchain is not asked for
-anything else: what it might say is played by a script. The last line is 'N passed, M failed'."""
+"""Tests of play and of the tools that run a program, and of built, which builds it: run `python3 tools/test_play.py`. The programs are built first, where they are not; what else the toolchain might
+say is played by a script. The last line is 'N passed, M failed'."""
 import os
 import pty
 import select
@@ -74,6 +74,8 @@ def played(checks):
     refuses_arguments(checks, 'library', 'usage: tools/library', ['a'])
     fails_to_write(checks, 'play', [], EXAMPLE.encode())
     fails_to_write(checks, 'stream', [])
+    fails_to_write(checks, 'limiter', ['1', '-'], b'7\n')
+    fails_to_write(checks, 'lookup', ['-'], b'7\n')
 
 
 def typed(checks):
