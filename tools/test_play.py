@@ -80,7 +80,11 @@ def played(checks):
 
 def typed(checks):
     """In a terminal, each line is answered as it is typed: the answer to one, and the prompt for the next, are awaited before that is typed."""
-    screen, end = pty.openpty()
+    try:
+        screen, end = pty.openpty()
+    except OSError as why:
+        print(f'no terminal can be opened here, and nothing is typed: {why.strerror}', file=sys.stderr)
+        return
     with subprocess.Popen([os.path.join(HERE, 'play')], stdin=end, stdout=end, stderr=end) as tool:
         os.close(end)
         lines = []
@@ -187,11 +191,13 @@ def built(checks):
     with tempfile.TemporaryDirectory() as folder:
         commands = copied(folder)
         os.chmod(folder, 0o755)
-        user = 65534 if os.geteuid() == 0 else None
-        if user is None:
-            os.chmod(os.path.join(folder, 'crates', 'low'), 0o555)
-        result = build(user)
-        checks.check('an unwritable folder', one_line(result, 1, 'tools/built: crates/low/out cannot be written: high is not built'), result)
+        os.chmod(os.path.join(folder, 'crates', 'low'), 0o555)
+        # to the superuser every folder is writable, so nobody builds
+        try:
+            result = build(65534 if os.geteuid() == 0 else None)
+            checks.check('an unwritable folder', one_line(result, 1, 'tools/built: crates/low/out cannot be written: high is not built'), result)
+        except (OSError, subprocess.SubprocessError) as why:
+            print(f'the user nobody cannot run a tool in {folder}, and no unwritable folder is tried: {why}', file=sys.stderr)
         os.chmod(os.path.join(folder, 'crates', 'low'), 0o755)
 
     with tempfile.TemporaryDirectory() as folder:
