@@ -319,7 +319,8 @@ filkotar_window_answer filkotar_window_value(filkotar_window s, uint64_t *area, 
  *
  * In each call `take` points to `length` values and `index` to `blocks` entries, and nothing else writes these while the call runs. While an index is
  * built, take and index do not overlap, and nothing else reads the index. Where `length` is 0, `take` points to none and may be a null pointer; so may
- * `index` where `blocks` is 0. The part of a take from i to j, to be drawn for example, is `take + i`, of j - i + 1 values: C needs no call for it.
+ * `index` where `blocks` is 0. C needs no call for the part of a take from i to j, to be drawn for example: where i is at most j and j below `length`, it is
+ * the j - i + 1 values from `take + i` on, and else it is empty.
  */
 typedef struct {
     uint32_t number; /* 0, or why the search was refused */

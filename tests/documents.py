@@ -283,10 +283,13 @@ def tables():
     found = [row for _, row in rows('README.md') if len(row) == 3]
     replies = [(int(a), (b, c)) for a, b, c in found if re.fullmatch('[0-9]+', a) and not re.fullmatch('[0-9,]+', b)]
     check(replies == list(REPLIES.items()), f'README.md: its replies are not those of tools/replies.py: {[it for it in replies if it not in REPLIES.items()]}')
-    classes = [[int(re.match('[0-9,]+', it)[0].replace(',', '')) for it in row] for row in found if all(re.match('[0-9]', it) for it in row)]
+    classes = [row for _, row in rows('README.md') if len(row) == 4 and all(re.match('[0-9]', it) for it in row)]
     check(len(classes) > 1, 'README.md: it has no price classes')
-    for taps, words, size in classes:
-        check(words == 512 + 64 * taps and size == 8 * words, f'README.md: the class of {taps} taps has {512 + 64 * taps} words, which are {8 * (512 + 64 * taps)} bytes')
+    for row in classes:
+        marks = int(row[0].split(', the most')[0].replace(',', ''))
+        words = 512 + 64 * marks
+        true = [f'{words:,}', f'{words / marks:.1f}', f'{8 * words:,}']
+        check(row[1:] == true, f'README.md: the class of {marks} marks has {true}')
     page = next(row[1] for _, row in rows(TRACE) if len(row) == 3 and row[1].isdigit())
     check(re.findall('one page of ([0-9]+) lines', text('README.md')) == [page], f'README.md: the page of demands 2 and 3 has {page} lines')
 

@@ -58,33 +58,50 @@ crates_of() {
         name in wanted { print name; sub(/^[^:]*:/, ""); for (n = 1; n <= NF; n++) wanted[$n] }' | tac
 }
 
-# Those of the crates that may have to be proved: nothing is built of them, or of a crate below, or a source is newer.
+# The checksum of all sources that a crate is made of.
+sources() {
+    local it
+    {
+        crates_of "$1"
+        for it in $(crates_of "$1"); do
+            find "crates/$it" -path "crates/$it/out" -prune -o -type f \( -name '*.rt' -o -name '*.antt' \) -print0
+        done | LC_ALL=C sort -z | xargs -0 sha256sum
+    } | sha256sum
+}
+
+# Of the toolchain: where its command is, how large it is, and when it was made.
+toolchain() {
+    stat -L -c '%n %s %Y' "$(command -v rt)" 2> /dev/null
+}
+
+# Those of the crates that are not proved here as they now are. target/proved tells; a proof that rt kept elsewhere it does not know.
 unproved() {
-    local crate below built todo=' '
-    for crate in "$@"; do
-        built=$(find "crates/$crate/out" -type f -not -path '*/incremental/*' -print -quit 2> /dev/null || true)
-        below=$(crates_of "$crate")
-        for below in $below; do
-            [[ $todo != *" $below "* ]] || built=
-        done
-        if [ -z "$built" ] || [ -n "$(find "crates/$crate" -path "crates/$crate/out" -prune -o -type f -newer "$built" \( -name '*.rt' -o -name '*.antt' \) -print -quit)" ]; then
-            todo+="$crate "
-        fi
+    local it
+    for it in "$@"; do
+        { [ -n "$(ls -A "crates/$it/out")" ] && [ "$(sources "$it"; toolchain)" = "$(cat "target/proved/$it")" ]; } 2> /dev/null || printf '%s ' "$it"
     done
-    echo $todo
+}
+
+# Of the crates that are left, those that still are when rt has come to one: it begins with a crate after all below it.
+without() {
+    local it todo=$2
+    for it in $(crates_of "$1"); do
+        todo=${todo/ $it / }
+    done
+    echo "$todo"
 }
 
 # prove CRATE COMMAND..: has rt prove and build a crate and those below it. Each is named as it is proved, with how many are left; where one is not, what rt says is shown. `narrowed` is then what rt
 # says of the processors that it compiled for, where these are not all.
 prove() {
-    local crate=$1 it todo said=() line count
+    local crate=$1 it all todo said=() line count
     narrowed=
     command -v rt > /dev/null || failed "there is no command 'rt' here: the Rattle toolchain is needed to build $crate"
-    todo=$(crates_of "$crate")
-    for it in $todo; do
+    all=$(crates_of "$crate")
+    for it in $all; do
         { mkdir -p "crates/$it/out" && [ -w "crates/$it/out" ]; } 2> /dev/null || failed "crates/$it/out cannot be written: $crate is not built"
     done
-    todo=" $(unproved $todo) "
+    todo=" $(unproved $all)"
     count=$(wc -w <<< "$todo")
     if [ "$count" -gt 0 ]; then
         echo "$TOOL: $crate is proved before it is built: crates to prove: $count, from nothing about $((count / 4 + 1)) min" >&2
@@ -93,12 +110,12 @@ prove() {
         case $line in
             'rt: '*': begins with what a check kept '*)
                 it=${line#rt: } it=${it%%:*}
-                todo=${todo/ $it / }
+                todo=$(without "$it" "$todo")
                 echo "    proved before: $it; left: $(wc -w <<< "$todo")" >&2 ;;
             'rt: waiting '*) echo "    ${line#rt: }" >&2 ;;
             'crate '*': modules '*) it=${line#crate } it=${it%%:*} ;;
             'logic=proved '*)
-                todo=${todo/ $it / }
+                todo=$(without "$it" "$todo")
                 echo "    proved: $it; left: $(wc -w <<< "$todo")" >&2
                 said=()
                 [[ $line != *' cpu='* ]] || narrowed=$line ;;
@@ -107,4 +124,9 @@ prove() {
             *) said+=("$line") ;;
         esac
     done < <(cd "crates/$crate" && "${@:2}" < /dev/null 2>&1 && echo 'rt ends with 0' || echo 'rt ends with 1')
+    if mkdir -p target/proved 2> /dev/null; then
+        for it in $all; do
+            { sources "$it"; toolchain; } > "target/proved/$it"
+        done
+    fi
 }

@@ -2,10 +2,10 @@
 
 # Of each reply: which calls get it, and why. README's table has the same words.
 REPLIES = {
-    0: ('any', 'accepted'),
+    0: ("an opening, a command, a window's value, building, a search, a rough reading", 'accepted'),
     1: ('an opening', 'fewer than 576 words are lent'),
-    2: ('a reading', 'the kind byte is none of 01 to 04'),
-    3: ('a reading', 'fewer than four bytes follow where an argument is due'),
+    2: ("reading a command's bytes", 'the kind byte is none of 01 to 04'),
+    3: ("reading a command's bytes", 'fewer than four bytes follow where an argument is due'),
     4: ("a command, a window's value", 'nothing is opened: the session has no words'),
     5: ("a command, a window's value", 'the area that is lent is not as long as at the opening'),
     6: ("a Value, a window's value", 'the last position, 4294967295, is reached'),
@@ -16,8 +16,8 @@ REPLIES = {
     11: ('a Query or a Close', 'no mark is active at its position'),
     12: ('the opening of a window', 'W is not from 1 to 4096'),
     13: ('the opening of a window', 'fewer than 2 × W words are lent'),
-    14: ('a range of a take', 'it does not lie inside the take'),
-    15: ('an index of a take', 'its length is not the number of blocks'),
+    14: ('a search, a rough reading', "i exceeds j, or j is not below the take's length"),
+    15: ('building, a search, a rough reading', 'the index is not as long as the take has blocks'),
 }
 
 

@@ -132,7 +132,7 @@ def copied(folder, *, rt=True, python=True):
     shutil.copytree(HERE, os.path.join(folder, 'tools'))
     commands = os.path.join(folder, 'commands')
     os.mkdir(commands)
-    for it in 'sh bash env chmod dirname readlink cat sha256sum find awk tac sort xargs sed stat wc mkdir mktemp rm cp mv'.split() + ['python3'] * python:
+    for it in 'sh bash env chmod dirname readlink cat sha256sum find awk tac sort xargs sed stat ls wc mkdir mktemp rm cp mv'.split() + ['python3'] * python:
         os.symlink(sys.executable if it == 'python3' else shutil.which(it), os.path.join(commands, it))
     if rt:
         with open(os.path.join(commands, 'rt'), 'w') as f:
