@@ -25,17 +25,22 @@ class Done(Exception):
     """A tool has said all that it was asked for."""
 
 
+def short(word):
+    """A word, cut where it is long."""
+    return word if len(word) <= 40 else word[:36] + ' ..'
+
+
 def number(word, least, greatest):
     """The whole number that a word writes, from least to greatest. The minus sign is - or −."""
     found = re.fullmatch('([-+\u2212]?)0*([0-9]+)', word)
     if not found:
         dash = '; its minus sign is - or \u2212, and this is another dash' if re.fullmatch('[\u2010-\u2015\ufe58\ufe63\uff0d][0-9]+', word) else ''
-        raise BadLine(f'{word!r} is not a whole number{dash}')
+        raise BadLine(f'{short(word)!r} is not a whole number{dash}')
     sign, digits = found.groups()
     # No number in range has more than ten digits, and int() refuses those with thousands.
     value = int(digits) if len(digits) <= 10 else None
     if value is None or not least <= (value if sign in ('', '+') else -value) <= greatest:
-        raise BadLine(f'{word} is out of range: from {least} to {greatest}')
+        raise BadLine(f'{short(word)} is out of range: from {least} to {greatest}')
     return value if sign in ('', '+') else -value
 
 
@@ -66,8 +71,8 @@ def lines_of(name):
         if name == '-' and sys.stdin is None:
             raise Failed('standard input: it is closed', 2)
         with text_of(sys.stdin.buffer if name == '-' else open(name, 'rb')) as lines:
-            for at, line in enumerate(lines, start=1):
-                if at == 1 and '\0' in line:
+            for line in lines:
+                if '\0' in line:
                     raise Failed(f'{shown(name)}: this is no text in UTF-8', 2)
                 yield line
     except OSError as why:
@@ -75,13 +80,13 @@ def lines_of(name):
 
 
 def shown(name):
-    return 'standard input' if name == '-' else name
+    """The name of a file, in one line."""
+    return 'standard input' if name == '-' else name if name and name.isprintable() else repr(name)
 
 
-def listed(bad):
-    """Says of each bad line its number and what is wrong with it."""
-    for at, why in bad:
-        print(f'line {at}: {why}', file=sys.stderr)
+def said(at, why):
+    """Says of a line its number and what is wrong with it."""
+    print(f'line {at}: {why}', file=sys.stderr)
 
 
 def arguments(given, usage, flags=(), most=1, least=0):
@@ -114,6 +119,9 @@ def run(main):
     """Runs a tool's `main` on its arguments, and ends with its status."""
     # A reader that has seen enough ends this program, as it does others in a pipe.
     signal.signal(signal.SIGPIPE, signal.SIG_DFL)
+    # What is printed to a standard error that is closed would go to standard output.
+    if sys.stderr is None:
+        sys.stderr = open(os.devnull, 'w')
     tool = os.environ.get('TOOL') or os.path.basename(sys.argv[0])
     try:
         if sys.stdout is None:
@@ -124,7 +132,7 @@ def run(main):
         except BrokenPipeError:
             status = 141
         except OSError as why:
-            raise Failed(f'standard output: {why.strerror}') from None
+            raise Failed(f'{os.environ.get("OUTPUT", "standard output")}: {why.strerror}') from None
     except Done:
         status = 0
     except Failed as why:

@@ -1,6 +1,8 @@
 # What the tools that are written for bash have in common. A tool sets `usage`, whose first line is 'usage: ..', and sources this. It is then at the top of the repository where it says `cd "$top"`.
 # A tool that fails says why in one line on standard error, and its status is not 0: 1, or 2 where an argument is wrong.
 set -euo pipefail
+# What is said to a standard error that is closed is lost, and nothing fails for that.
+{ : 3>&2; } || exec 2> /dev/null
 export TOOL="tools/${0##*/}"
 top=$(cd "$(dirname "$(readlink -f "$0")")/.." && pwd)
 
@@ -27,14 +29,24 @@ writable() {
     { : 3>&1; } 2> /dev/null || failed 'standard output: it is closed'
 }
 
-python() {
-    command -v python3 > /dev/null || failed "there is no command 'python3' here: $1"
+readable() {
+    { : 3<&0; } 2> /dev/null || failed 'standard input: it is closed' 2
+    [ ! -d /dev/stdin ] || failed 'standard input: Is a directory' 2
+}
+
+# The input of a program in a file, as a script of Python's writes it: written SCRIPT ARGUMENT.. for a file whose name is then in `input`.
+written() {
+    command -v python3 > /dev/null || failed "there is no command 'python3' here: it reads the text"
+    input=$(mktemp 2> /dev/null) || failed 'a temporary file cannot be made'
+    trap 'rm -f "$input"' EXIT
+    OUTPUT='a temporary file' python3 "$top/tools/$1" "${@:2}" > "$input"
 }
 
 # Runs a program on standard input. No program tells by its status that its output could not be written; `cat` does.
 program() {
     local path told status
     writable
+    readable
     path=$("$top/tools/built" "$1" < /dev/null) || exit 1
     exec 3>&1
     set +e
@@ -52,10 +64,19 @@ program() {
 
 # The crates that one is made of, itself among them, in the order of crates.txt.
 crates_of() {
-    tac crates.txt | awk -v crate="$1" '
-        BEGIN { wanted[crate] }
-        { name = $1; sub(/:$/, "", name) }
-        name in wanted { print name; sub(/^[^:]*:/, ""); for (n = 1; n <= NF; n++) wanted[$n] }' | tac
+    awk -v crate="$1" '
+        { line[NR] = $0 }
+        END {
+            wanted[crate]
+            for (n = NR; n > 0; n--) {
+                split(line[n], word); name = word[1]; sub(/:$/, "", name)
+                if (!(name in wanted)) continue
+                found = name "\n" found
+                sub(/^[^:]*:/, "", line[n]); count = split(line[n], word)
+                for (m = 1; m <= count; m++) wanted[word[m]]
+            }
+            printf "%s", found
+        }' crates.txt
 }
 
 # The checksum of all sources that a crate is made of.
@@ -82,6 +103,26 @@ unproved() {
     done
 }
 
+# Whether a file is what was built of a crate as it now is, by the toolchain that there is: the file of this name in target/built tells.
+state() {
+    sources "$1"
+    sha256sum < "$2"
+    toolchain || sed -n 3p "target/built/$3"
+}
+
+current() {
+    [ -f "$2" ] && [ -f "target/built/$3" ] && [ "$(state "$@")" = "$(cat "target/built/$3")" ]
+}
+
+keep() {
+    state "$@" > "target/built/$3" 2> /dev/null || failed "target/built/$3 cannot be written"
+}
+
+# How many words there are.
+count() {
+    echo $#
+}
+
 # Of the crates that are left, those that still are when rt has come to one: it begins with a crate after all below it.
 without() {
     local it todo=$2
@@ -91,42 +132,54 @@ without() {
     echo "$todo"
 }
 
-# prove CRATE COMMAND..: has rt prove and build a crate and those below it. Each is named as it is proved, with how many are left; where one is not, what rt says is shown. `narrowed` is then what rt
-# says of the processors that it compiled for, where these are not all.
+# A crate is proved here as it now is; where that cannot be kept, it is only told anew.
+noted() {
+    { mkdir -p target/proved && { sources "$1"; toolchain; } > "target/proved/$1"; } 2> /dev/null || true
+}
+
+# prove CRATE COMMAND..: has rt prove and build a crate and those below it. Each is named as it is proved, with how many are left; where one is not, what rt says is shown. `narrowed` is then what
+# rt says of the processors that it compiled for, where these are not all.
 prove() {
-    local crate=$1 it all todo said=() line count
+    local crate=$1 it='' all todo said=() line before='' broken=''
     narrowed=
     command -v rt > /dev/null || failed "there is no command 'rt' here: the Rattle toolchain is needed to build $crate"
     all=$(crates_of "$crate")
-    for it in $all; do
-        { mkdir -p "crates/$it/out" && [ -w "crates/$it/out" ]; } 2> /dev/null || failed "crates/$it/out cannot be written: $crate is not built"
+    for it in $(printf 'crates/%s/out ' $all) target/built; do
+        { mkdir -p "$it" && [ -w "$it" ]; } 2> /dev/null || failed "$it cannot be written: $crate is not built"
     done
     todo=" $(unproved $all)"
-    count=$(wc -w <<< "$todo")
-    if [ "$count" -gt 0 ]; then
-        echo "$TOOL: $crate is proved before it is built: crates to prove: $count, from nothing about $((count / 4 + 1)) min" >&2
+    it=$(count $todo)
+    if [ "$it" -gt 0 ]; then
+        echo "$TOOL: $crate is proved before it is built: crates to prove: $it, from nothing about $((it / 4 + 1)) min" >&2
+    else
+        echo "$TOOL: $crate is built, which takes some seconds" >&2
     fi
     while IFS= read -r line; do
         case $line in
             'rt: '*': begins with what a check kept '*)
-                it=${line#rt: } it=${it%%:*}
-                todo=$(without "$it" "$todo")
-                echo "    proved before: $it; left: $(wc -w <<< "$todo")" >&2 ;;
+                before=${line#rt: } before=${before%%:*}
+                todo=$(without "$before" "$todo")
+                echo "    proved before: $before; left: $(count $todo)" >&2 ;;
             'rt: waiting '*) echo "    ${line#rt: }" >&2 ;;
             'crate '*': modules '*) it=${line#crate } it=${it%%:*} ;;
             'logic=proved '*)
+                noted "$it"
                 todo=$(without "$it" "$todo")
-                echo "    proved: $it; left: $(wc -w <<< "$todo")" >&2
+                [ "$it" = "$before" ] || echo "    proved: $it; left: $(count $todo)" >&2
                 said=()
                 [[ $line != *' cpu='* ]] || narrowed=$line ;;
-            'rt ends with '*) [ "$line" = 'rt ends with 0' ] || { printf '%s\n' "${said[@]}" >&2; failed "$crate is not built; rt said the above"; } ;;
+            'logic=not-proved'*) broken=$it ;;
+            'rt ends with 0') [ -z "${todo// /}" ] || echo "    proved before: $crate; left: 0" >&2 ;;
+            'rt ends with '*)
+                [ -z "$broken" ] || [ "$broken" = "$crate" ] || crate="$broken is not proved, and $crate"
+                [ ${#said[@]} -gt 0 ] || failed "$crate is not built; rt said nothing"
+                printf '%s\n' "${said[@]}" >&2
+                failed "$crate is not built; rt said the above" ;;
             'statements '* | 'library '* | 'logic '* | 'fn '*': proved' | 'struct '*': proved' | 'enum '*': proved' | 'impl '*': proved') ;;
             *) said+=("$line") ;;
         esac
     done < <(cd "crates/$crate" && "${@:2}" < /dev/null 2>&1 && echo 'rt ends with 0' || echo 'rt ends with 1')
-    if mkdir -p target/proved 2> /dev/null; then
-        for it in $all; do
-            { sources "$it"; toolchain; } > "target/proved/$it"
-        done
-    fi
+    for it in $all; do
+        noted "$it"
+    done
 }

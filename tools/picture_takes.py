@@ -285,7 +285,7 @@ def under(told, budget):
         said += f'; {counted(len(told.requests), "request")}, {len(told.refused)} refused'
     if told.columns:
         looks = sum(rough.reading().looks for _, _, rough in told.columns)
-        said += f'; {counted(len(told.columns), "column")}, each with a rough reading of {counted(budget, "look")} at most: {counted(looks, "look")} in all'
+        said += f'; {counted(len(told.columns), "column, with", "columns, each with")} a rough reading of {counted(budget, "look")} at most: {counted(looks, "look")} in all'
     return said
 
 

@@ -1,22 +1,30 @@
 #!/usr/bin/env python3
 """usage: tools/play [-k] [FILE]
 
-Runs commands given as text through the engine, and prints the stream program's lines, each with what it says in words:
+Runs commands given as text through the engine, and prints the stream program's
+lines, each with what it says in words:
 
   V 12    a value, in quarter decibels of headroom; below zero is clipping
   M       a mark: a layer starts at the present position
   Q 1     how low has headroom sunk since the mark at position 1, and where?
   C 1     the mark at position 1 is forgotten
 
-One command stands on a line; blank lines and lines that start with # are skipped. Without FILE, or where it is -, standard input is read; in a terminal each line is answered as it is typed, and
-Ctrl-D ends. There is room for 60 marks at a time.
+One command stands on a line; blank lines and lines that start with # are
+skipped. Without FILE, or where it is -, standard input is read; in a terminal
+each line is answered as it is typed, and Ctrl-D ends. There is room for 60
+marks at a time.
 
-Where a line of a file is bad nothing runs: the number of each bad line, and what is wrong with it, go to standard error, and the exit status is 1.
+Where a line of a file is bad nothing runs: the number of each bad line, and
+what is wrong with it, go to standard error, and the exit status is 1.
 
-  -k      the good lines run all the same. A Value that drops out shifts all later positions
+  -k      the good lines run all the same. A Value that drops out shifts all
+          later positions
 
-The stream program reads no more than 16384 bytes, in which there is room for 3276 Values. Where there are more, the line on which the limit falls goes to standard error, and the exit status is 3.
-It is 2 where the file cannot be read. The program is proved and built first, where that is not done yet: from nothing this takes some minutes.
+The stream program reads no more than 16384 bytes, in which there is room for
+3276 Values. Where there are more, the line on which the limit falls goes to
+standard error, and the exit status is 3. It is 2 where the file cannot be
+read. The program is proved and built first, where that is not done yet: from
+nothing this takes some minutes.
 """
 import contextlib
 import sys
@@ -80,6 +88,8 @@ def typed(path):
     prompt = '> ' if sys.stdout.isatty() else ''
     width = 14
     commands = []
+    if prompt:
+        print('V 12, M, Q 1, C 1: one to a line. Ctrl-D ends.')
     print(beside(transcript(path, [])[0], width), flush=True)
     at = 0
     while True:

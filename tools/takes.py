@@ -1,25 +1,36 @@
 #!/usr/bin/env python3
 """usage: takes.py FILE
 
-Write the input of `lookup` for a take and requests given as text, one item to a line:
+Writes the input of `lookup` for a take and requests given as text, one item to
+a line:
 
-  -12            a value of the take, from -2147483648 to 2147483647; no more than 8192 of them
-  index 2        the index's length, from 0 to 256; without this line it is the number of blocks of 64 values, the last one perhaps shorter
-  search 0 63    the least value from one place to another, each from 0 to 4294967295; places are numbered from 0
+  -12            a value of the take, from -2147483648 to 2147483647; there are
+                 no more than 8192
+  index 2        the index's length, from 0 to 256; without this line it is the
+                 number of blocks of 64 values, the last one perhaps shorter
+  search 0 63    the least value from one place to another, each from 0 to
+                 4294967295; places are numbered from 0
   stretch 0 63   the values from one place to another
-  rough 0 63 9   a rough reading from one place to another, with a budget of looks from 0 to 4294967295
+  rough 0 63 9   a rough reading from one place to another, with a budget of
+                 looks from 0 to 4294967295
   set 1 -12      make an entry of the index another value
 
-First come the values, then the index's length, then the requests, and all of them are 65536 bytes at most. FILE is - for standard input. Numbers are whole decimal numbers, with - or − for minus; they become four
-bytes each, least significant first. A request has a kind byte before its numbers and, where they are two, four zero bytes behind them. Blank lines and lines that start with # are skipped.
+First come the values, then the index's length, then the requests, and all of
+them are 65536 bytes at most. FILE is - for standard input. Numbers are whole
+decimal numbers, with - or − for minus; they become four bytes each, least
+significant first. A request has a kind byte before its numbers and, where they
+are two, four zero bytes behind them. Blank lines and lines that start with #
+are skipped.
 
-Where a line is bad nothing is written: its number and what is wrong with it go to standard error, and the exit status is 1. It is 2 where the file cannot be read.
+Where a line is bad nothing is written: its number and what is wrong with it go
+to standard error, and the exit status is 1. It is 2 where the file cannot be
+read.
 """
 import sys
 
 # no files of Python's own beside these
 sys.dont_write_bytecode = True
-from lines import BadLine, arguments, four_bytes, lines_of, listed, meant, number, run, write
+from lines import BadLine, arguments, four_bytes, lines_of, meant, number, run, said, short, write
 
 VALUE = (-2**31, 2**31 - 1)
 NUMBER = (0, 2**32 - 1)
@@ -88,25 +99,28 @@ class Take:
         words = line.split()
         if not words or words[0].startswith('#'):
             return
+        if any(it.startswith('#') for it in words):
+            raise BadLine('a comment stands on a line of its own')
         if words[0] == 'index':
             self.index(words[1:])
         elif words[0] in REQUESTS:
             self.request(words[0], words[1:])
-        elif len(words) == 1 and not meant(words[0], ['index', *REQUESTS]):
+        elif len(words) == 1 and not words[0][0].isalpha():
             self.value(words[0])
         else:
-            raise BadLine(f'unknown item {words[0]!r}{meant(words[0], ["index", *REQUESTS]) or ": it is a value alone, or index, search, stretch, rough or set"}')
+            raise BadLine(f'unknown item {short(words[0])!r}{meant(words[0], ["index", *REQUESTS]) or ": it is a value alone, or index, search, stretch, rough or set"}')
 
 
 def read(lines):
-    """What the lines say, and the bad ones, each with what is wrong with it."""
+    """What the lines say, and how many are bad. What is wrong with one is said as it is read."""
     take = Take()
-    bad = []
+    bad = 0
     for at, line in enumerate(lines, start=1):
         try:
             take.line(line)
         except BadLine as why:
-            bad.append((at, why))
+            said(at, why)
+            bad += 1
             if isinstance(why, TooMuch):
                 break
     return take, bad
@@ -116,7 +130,6 @@ def main(given):
     name, = arguments(given, __doc__, least=1)[1]
     take, bad = read(lines_of(name))
     if bad:
-        listed(bad)
         return 1
     write(take.bytes())
     return 0

@@ -36,6 +36,8 @@ CASES = [
     (b'V\nQ\nC\nM 1\nV 1 2\n', '', 1,
      ['line 1: V takes an argument', 'line 2: Q takes an argument', 'line 3: C takes an argument',
       'line 4: M takes no argument', 'line 5: V takes one argument']),
+    (b'V 12 # loud\nM # here\n', '', 1, ['line 1: a comment stands on a line of its own', 'line 2: a comment stands on a line of its own']),
+    (b'V ' + b'x' * 5000 + b'\n' + b'y' * 5000, '', 1, ["line 1: '" + 'x' * 36 + " ..' is not a whole number", "line 2: unknown command '" + 'y' * 36 + " ..': it is V, M, Q or C"]),
     (b'V 1.5\nV x\nV 1_0\nV --1\nV 0x1\nV \xd9\xa1\nV \xff\n', '', 1, ['is not a whole number'] * 7),
     (b'V \xe2\x80\x933\n', '', 1, ["line 1: '\u20133' is not a whole number; its minus sign is - or \u2212"]),
     # as many bytes as the stream program reads, and a command more: what fits is written, and the line on which the limit falls is said
@@ -69,8 +71,11 @@ def main():
         for name in (os.path.join(folder, 'absent'), folder):
             result = run(TOOL, [name])
             checks.check(name, one_line(result, 2, f'{name}: '), result)
-    result = run(TOOL, [], 'V 1\n'.encode('utf-16'))
-    checks.check('UTF-16', one_line(result, 2, 'standard input: this is no text in UTF-8'), result)
+    for text in ('V 1\n'.encode('utf-16'), b'M\nM\n\0\0\0'):
+        result = run(TOOL, [], text)
+        checks.check(text, one_line(result, 2, 'standard input: this is no text in UTF-8'), result)
+    result = run(TOOL, [''])
+    checks.check('no name', one_line(result, 2, "'': No such file or directory"), result)
     refuses_arguments(checks, TOOL, 'usage: commands.py [-k] [FILE]', ['a', 'b'])
     fails_to_write(checks, TOOL, ['-'])
     checks.end()

@@ -165,19 +165,21 @@ FAILURES = [
     (['--looks', 'x', '-'], '1\n', 2, ["tools/picture: --looks takes a number: 'x' is not a whole number"]),
     (['--looks=-1', '-'], '1\n', 2, ['tools/picture: --looks takes a number: -1 is out of range: from 0 to 4294967295']),
     (['--columns', '0', '-'], '1\n', 2, ['tools/picture: --columns takes a number: 0 is out of range: from 1 to 1000']),
-    (['-', '--columns'], '1\n', 2, ["tools/picture: --columns takes a number: '' is not a whole number"]),
+    (['-', '--columns'], '1\n', 2, ['tools/picture: --columns takes a number, and there is none']),
     (['--looks', '3', '-'], 'V 1\n', 2, ['tools/picture: --looks is for a take, and standard input has none']),
     (['/absent/file'], '', 2, ['tools/picture: /absent/file: No such file or directory']),
     (['/'], '', 2, ['tools/picture: /: Is a directory']),
     (['-'], 'V 1\nX 3\nQ\n', 1, ["line 2: unknown command 'X'", 'line 3: Q takes an argument']),
     (['-'], 'v 1\n', 1, ["line 1: unknown command 'v': did you mean 'V'?"]),
-    (['-'], '1\nx\nsearch 0\n', 1, ["line 2: 'x' is not a whole number", 'line 3: search takes two numbers']),
+    (['-'], '1\nx\nsearch 0\n', 1, ["line 2: unknown item 'x'", 'line 3: search takes two numbers']),
     (['-'], '0\n' * 8193, 1, ['line 8193: there are more than 8192 values']),
 ]
 
 
 def main():
     checks = Checks()
+    for name in ('stream', 'lookup'):
+        picture.path_of(name)
     for name in ('dip', 'take'):
         text, stored = (os.path.join(EXAMPLES, f'{name}.{kind}') for kind in ('txt', 'svg'))
         with open(stored, 'rb') as kept:

@@ -13,6 +13,7 @@ import tempfile
 # no files of Python's own beside these
 sys.dont_write_bytecode = True
 from checks import HERE, Checks, fails_to_write, one_line, refuses_arguments, right, run
+from programs import path_of
 
 TOP = os.path.dirname(HERE)
 
@@ -72,6 +73,16 @@ def played(checks):
     refuses_arguments(checks, 'limiter', 'usage: tools/limiter W FILE', ['1'])
     refuses_arguments(checks, 'lookup', 'usage: tools/lookup FILE', [])
     refuses_arguments(checks, 'library', 'usage: tools/library', ['a'])
+    for tool in ('play', 'stream'):
+        path = os.path.join(HERE, tool)
+        result = subprocess.run(['sh', '-c', '"$0" <&-', path], capture_output=True, timeout=60)
+        checks.check((tool, 'input closed'), one_line(result, 2, f'tools/{tool}: standard input: it is closed'), result)
+        result = subprocess.run(['sh', '-c', '"$0" < /', path], capture_output=True, timeout=60)
+        checks.check((tool, 'a folder for input'), one_line(result, 2, f'tools/{tool}: standard input: Is a directory'), result)
+    result = subprocess.run(['sh', '-c', '"$0" "$1" - 2>&-', sys.executable, os.path.join(HERE, 'commands.py')], input=b'V 1\nX\n', stdout=subprocess.PIPE)
+    checks.check('errors closed', result.returncode == 1 and result.stdout == b'', result)
+    result = subprocess.run(['sh', '-c', '"$0" 2>&-', os.path.join(HERE, 'stream')], input=b'\2', stdout=subprocess.PIPE)
+    checks.check('errors closed', result.returncode == 0 and result.stdout == b'taps 60\n1 M 7\nend 1 0 0\n', result)
     fails_to_write(checks, 'play', [], EXAMPLE.encode())
     fails_to_write(checks, 'stream', [])
     fails_to_write(checks, 'limiter', ['1', '-'], b'7\n')
@@ -107,6 +118,7 @@ def typed(checks):
 # What an rt says that proves the crates named, and what it does, as a script.
 RT = '''#!/bin/sh
 echo called >> "$CALLS"
+[ -z "$SILENT" ] || exit 1
 for crate in $KEPT; do
     echo "rt: $crate: begins with what a check kept in /elsewhere/$crate"
 done
@@ -117,18 +129,19 @@ for crate in $PROVES; do
     echo "crate $crate: modules loaded=0 checked=1"
     echo "logic=proved functions=1 sum=0"
 done
-[ -z "$FAILS" ] || { echo 'crate high: modules loaded=0 checked=1'; echo 'logic=not-proved'; echo 'no proof: f'; exit 1; }
+[ -z "$FAILS" ] || { echo "crate $FAILS: modules loaded=0 checked=1"; echo 'logic=not-proved'; echo 'no proof: f'; exit 1; }
+[ "$1" != lib ] || { mkdir -p out && echo archive > out/libfirmware_c.a; exit; }
 [ -n "$NO_BINARY" ] || { mkdir -p out && printf '#!/bin/sh\\ncat\\n' > out/high && chmod +x out/high; }
 '''
 
 
 def copied(folder, *, rt=True, python=True):
-    """A repository of two crates, a program `high` above `low`, with the tools of this one; and what stands in PATH."""
-    for name in ('low', 'high'):
+    """A repository of three crates, a program `high` and the library `firmware_c` above `low`, with the tools of this one; and what stands in PATH."""
+    for name in ('low', 'high', 'firmware_c'):
         os.makedirs(os.path.join(folder, 'crates', name, 'src'))
-    for name in ('low/src/lib.rt', 'high/src/main.rt', '../crates.txt'):
+    for name in ('low/src/lib.rt', 'high/src/main.rt', 'firmware_c/src/lib.rt', '../crates.txt'):
         with open(os.path.join(folder, 'crates', name), 'w') as f:
-            f.write('low:\nhigh: low io\n' if name.endswith('txt') else '// nothing\n')
+            f.write('low:\nhigh: low io\nfirmware_c staticlib: low\n' if name.endswith('txt') else '// nothing\n')
     shutil.copytree(HERE, os.path.join(folder, 'tools'))
     commands = os.path.join(folder, 'commands')
     os.mkdir(commands)
@@ -147,9 +160,9 @@ def built(checks):
         commands = copied(folder)
         calls = os.path.join(folder, 'calls')
 
-        def build(user=None, **settings):
-            names = {'PATH': commands, 'CALLS': calls, 'KEPT': '', 'PROVES': 'low high', 'FAILS': '', 'NO_BINARY': ''}
-            return subprocess.run([os.path.join(folder, 'tools', 'built'), 'high'], capture_output=True, env={**names, **settings}, **({} if user is None else {'user': user, 'group': user, 'extra_groups': []}))
+        def build(user=None, tool=('built', 'high'), **settings):
+            names = {'PATH': commands, 'CALLS': calls, 'KEPT': '', 'PROVES': 'low high', 'FAILS': '', 'SILENT': '', 'NO_BINARY': ''}
+            return subprocess.run([os.path.join(folder, 'tools', tool[0]), *tool[1:]], capture_output=True, env={**names, **settings}, **({} if user is None else {'user': user, 'group': user, 'extra_groups': []}))
 
         def asked():
             if not os.path.exists(calls):
@@ -160,9 +173,14 @@ def built(checks):
         path = os.path.join(folder, 'crates', 'high', 'out', 'high')
         done = os.fsencode(path) + b'\n'
         result = build(NO_BINARY='1')
-        checks.check('no binary', result.returncode == 1 and b'tools/built: rt built no crates/high/out/high\n' in result.stderr and asked() == 1, result)
-        result = build(FAILS='1', PROVES='low')
+        checks.check('no binary', result.returncode == 1 and result.stderr.endswith(b'tools/built: rt built no crates/high/out/high\n') and asked() == 1, result)
+        result = build(FAILS='high', PROVES='low')
         checks.check('no proof', result.returncode == 1 and result.stderr.endswith(b'no proof: f\ntools/built: high is not built; rt said the above\n') and b'statements' not in result.stderr, result)
+        result = build(FAILS='low', PROVES='')
+        checks.check('no proof below', result.returncode == 1 and result.stderr.endswith(b'no proof: f\ntools/built: low is not proved, and high is not built; rt said the above\n'), result)
+        result = build(SILENT='1')
+        checks.check('rt says nothing', result.returncode == 1 and result.stderr.endswith(b'tools/built: high is not built; rt said nothing\n'), result)
+        os.unlink(calls)
         result = build()
         checks.check('from nothing', right(result, 0, done, ['tools/built: high is proved before it is built: crates to prove: 2, from nothing about 1 min', '    proved: low; left: 1', '    proved: high; left: 0']), result)
         count = asked()
@@ -181,9 +199,24 @@ def built(checks):
             f.write('// more\n')
         result = build()
         checks.check('a source below is another', result.returncode == 0 and asked() == count + 3 and b'proved: high' in result.stderr, result)
+        os.chmod(path, 0o644)
+        result = build()
+        checks.check('the program cannot be run', result.returncode == 0 and result.stdout == done and os.access(path, os.X_OK), result)
+        result = build(tool=['library'], PROVES='firmware_c')
+        archive = b'target/filkotar/libfilkotar.a is built: 8 bytes, for x86-64; its header is include/filkotar.h\n'
+        checks.check('library', right(result, 0, archive, ['tools/library: firmware_c is proved before it is built: crates to prove: ', '    proved: firmware_c; left: 0']), result)
+        count = asked()
+        result = build(tool=['library'])
+        checks.check('library at once', right(result, 0, archive, []) and asked() == count, result)
         os.unlink(os.path.join(commands, 'rt'))
         result = build()
         checks.check('no rt, nothing to do', right(result, 0, done, []), result)
+        result = build(tool=['library'])
+        checks.check('no rt, nothing to do', right(result, 0, archive, []), result)
+        with open(os.path.join(folder, 'crates', 'low', 'src', 'lib.rt'), 'a') as f:
+            f.write('// more\n')
+        result = build(tool=['library'])
+        checks.check('no rt', one_line(result, 1, "tools/library: there is no command 'rt' here") and os.path.exists(os.path.join(folder, 'target', 'filkotar', 'libfilkotar.a')), result)
         os.unlink(path)
         result = build()
         checks.check('no rt', one_line(result, 1, "tools/built: there is no command 'rt' here"), result)
@@ -199,6 +232,10 @@ def built(checks):
         except (OSError, subprocess.SubprocessError) as why:
             print(f'the user nobody cannot run a tool in {folder}, and no unwritable folder is tried: {why}', file=sys.stderr)
         os.chmod(os.path.join(folder, 'crates', 'low'), 0o755)
+        with open(os.path.join(folder, 'target'), 'w'):
+            pass
+        result = build()
+        checks.check('no folder for what is kept', one_line(result, 1, 'tools/built: target/built cannot be written: high is not built'), result)
 
     with tempfile.TemporaryDirectory() as folder:
         commands = copied(folder, python=False)
@@ -210,6 +247,8 @@ def built(checks):
 
 def main():
     checks = Checks()
+    for name in ('stream', 'limiter', 'lookup'):
+        path_of(name)
     played(checks)
     typed(checks)
     built(checks)

@@ -50,7 +50,7 @@ CASES = [
     (b'1\nsearch 0 0\nindex 1\n', '', 1, ['line 3: the index stands behind a request']),
     (b'1\nindex 1\nindex 1\n', '', 1, ["line 3: the index's length is given already"]),
     # one bad line is enough, and nothing is written; each bad line has a message
-    (b'1\nx\n2\n', '', 1, ["line 2: 'x' is not a whole number"]),
+    (b'1\n-x\n2\nx\n3 # 4\n', '', 1, ["line 2: '-x' is not a whole number", "line 4: unknown item 'x'", 'line 5: a comment stands on a line of its own']),
     (b'1 2\nlook 0 0\nSearch 0 0\n', '', 1, ["line 1: unknown item '1'", "line 2: unknown item 'look'", "line 3: unknown item 'Search': did you mean 'search'?"]),
     (b'rough\nrough 1\nrough 1 2\nrough 1 2 3 4\nrough 1 2 x\n', '', 1,
      ['line 1: rough takes three numbers', 'line 2: rough takes three numbers', 'line 3: rough takes three numbers', 'line 4: rough takes three numbers', "line 5: 'x' is not a whole number"]),

@@ -1,21 +1,26 @@
 #!/usr/bin/env python3
 """usage: values.py W FILE
 
-Writes the limiter's input for values given as text, one to a line: W, the number of words to lend, which is 2 * W and no more than 8192, and the values, each as four bytes, least
-significant first.
+Writes the limiter's input for values given as text, one to a line: W, the
+number of words to lend, which is 2 * W and no more than 8192, and the values,
+each as four bytes, least significant first.
 
-W is a whole number from 0 to 4294967295. FILE is - for standard input. Every line is one value, from -2147483648 to 2147483647, so that a value's running number is that of its
-line. Spaces around it, a sign, which may be - or −, and leading zeros are allowed; a blank line or a comment is no value. There are no more than 16382 values.
+W is a whole number from 0 to 4294967295. FILE is - for standard input. Every
+line is one value, from -2147483648 to 2147483647, so that a value's running
+number is that of its line. Spaces around it, a sign, which may be - or −, and
+leading zeros are allowed; a blank line or a comment is no value. There are no
+more than 16382 values.
 
-Where a line is bad nothing is written: its number and what is wrong with it go to standard error, and the exit status is 1. So it is where there are too many values. It is 2 where
-W is bad or the file cannot be read.
+Where a line is bad nothing is written: its number and what is wrong with it go
+to standard error, and the exit status is 1. So it is where there are too many
+values. It is 2 where W is bad or the file cannot be read.
 """
 import itertools
 import sys
 
 # no files of Python's own beside these
 sys.dont_write_bytecode = True
-from lines import BadLine, Failed, arguments, four_bytes, lines_of, listed, number, run, shown, write
+from lines import BadLine, Failed, arguments, four_bytes, lines_of, number, run, said, shown, write
 
 MOST_WORDS = 8192
 MOST_VALUES = 16382
@@ -43,14 +48,13 @@ def main(given):
     lines = list(itertools.islice(lines_of(name), MOST_VALUES + 1))
     if len(lines) > MOST_VALUES:
         raise Failed(f'{shown(name)}: there are more than {MOST_VALUES} values')
-    found, bad = [], []
+    found = []
     for at, line in enumerate(lines, start=1):
         try:
             found.append(value(line))
         except BadLine as why:
-            bad.append((at, why))
-    if bad:
-        listed(bad)
+            said(at, why)
+    if len(found) < len(lines):
         return 1
     write(heading(width) + b''.join(map(four_bytes, found)))
     return 0
