@@ -25,6 +25,8 @@ def main():
     with open(os.path.join(TOP, 'README.md'), encoding='utf-8') as text:
         found = list(demos(text.read().split('\n')))
     failed = 0
+    for name in ('stream', 'limiter', 'lookup'):
+        subprocess.run([os.path.join(TOP, 'tools', 'built'), name], stdout=subprocess.DEVNULL, check=True)
     for command, shown in found:
         result = subprocess.run(['sh', '-c', command], cwd=TOP, stdin=subprocess.DEVNULL, stdout=subprocess.PIPE, stderr=subprocess.STDOUT)
         printed = result.stdout.decode().splitlines()

@@ -24,10 +24,15 @@ class Checks:
         sys.exit(1 if self.failed else 0)
 
 
-def run(tool, arguments, text=b'', **more):
-    """A tool of this folder, run on this text; a script of Python's by the Python that runs the test."""
+def command_of(tool, arguments):
+    """The command of a tool of this folder; a script of Python's is run by the Python that runs the test."""
     path = os.path.join(HERE, tool)
-    return subprocess.run([sys.executable, path, *arguments] if tool.endswith('.py') else [path, *arguments], input=text, capture_output=True, **more)
+    return [sys.executable, path, *arguments] if tool.endswith('.py') else [path, *arguments]
+
+
+def run(tool, arguments, text=b''):
+    """A tool, run on this text."""
+    return subprocess.run(command_of(tool, arguments), input=text, capture_output=True)
 
 
 def right(result, code, out, messages):
@@ -44,8 +49,7 @@ def one_line(result, code, message):
 
 def fails_to_write(checks, tool, arguments, text=b''):
     """Where its output is full or closed the tool says so in one line."""
-    path = os.path.join(HERE, tool)
-    command = [sys.executable, path, *arguments] if tool.endswith('.py') else [path, *arguments]
+    command = command_of(tool, arguments)
     with open('/dev/full', 'wb') as full:
         result = subprocess.run(command, input=text, stdout=full, stderr=subprocess.PIPE)
     checks.check((tool, 'no room'), result.returncode == 1 and b'standard output: No space left' in result.stderr and result.stderr.count(b'\n') == 1, result)

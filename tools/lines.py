@@ -1,11 +1,11 @@
 """What the tools that are written in Python have in common: lines of text and the numbers in them, arguments, and how each of them ends.
 
-A tool that fails says why in one line on standard error, and its status is not 0: 1 where something in it or in its input is wrong, 2 where an argument is, or a file cannot be read.
+A tool that fails says why in one line on standard error, and its status is not 0: 1 where its input or its output is wrong, 2 where an argument is, or a file cannot be read, 3 where a stream is cut,
+130 where it is interrupted, and 141 where nobody reads its output any more.
 """
 import io
 import os
 import re
-import signal
 import sys
 
 
@@ -56,7 +56,7 @@ def meant(word, known):
         if word.lower() == it.lower():
             return f": did you mean '{it}'?"
         if re.fullmatch(f'{it}[-+\u2212]?[0-9]+', word, re.IGNORECASE):
-            return f": did you mean '{it} {word[len(it):]}'?"
+            return f": did you mean '{it} {short(word[len(it):])}'?"
     return ''
 
 
@@ -111,18 +111,17 @@ def arguments(given, usage, flags=(), most=1, least=0):
 
 def write(data):
     """Writes bytes, or text, to standard output."""
-    sys.stdout.buffer.write(data if isinstance(data, bytes) else data.encode())
-    sys.stdout.buffer.flush()
+    # Not by sys.stdout.buffer: where PYTHONUNBUFFERED is set, that leaves off in the middle when a disk is full, and does not tell.
+    with open(sys.stdout.fileno(), 'wb', closefd=False) as out:
+        out.write(data if isinstance(data, bytes) else data.encode())
 
 
 def run(main):
     """Runs a tool's `main` on its arguments, and ends with its status."""
-    # A reader that has seen enough ends this program, as it does others in a pipe.
-    signal.signal(signal.SIGPIPE, signal.SIG_DFL)
     # What is printed to a standard error that is closed would go to standard output.
     if sys.stderr is None:
         sys.stderr = open(os.devnull, 'w')
-    tool = os.environ.get('TOOL') or os.path.basename(sys.argv[0])
+    tool = os.environ.get('FILKOTAR_TOOL') or os.path.basename(sys.argv[0])
     try:
         if sys.stdout is None:
             raise Failed('standard output: it is closed')
@@ -130,9 +129,10 @@ def run(main):
             status = main(sys.argv[1:])
             sys.stdout.flush()
         except BrokenPipeError:
+            # The reader has seen enough: the status is that of any program which ends so in a pipe.
             status = 141
         except OSError as why:
-            raise Failed(f'{os.environ.get("OUTPUT", "standard output")}: {why.strerror}') from None
+            raise Failed(f'{os.environ.get("FILKOTAR_OUTPUT", "standard output")}: {why.strerror}') from None
     except Done:
         status = 0
     except Failed as why:

@@ -1,22 +1,23 @@
-# What the tools that are written for bash have in common. A tool sets `usage`, whose first line is 'usage: ..', and sources this. It is then at the top of the repository where it says `cd "$top"`.
-# A tool that fails says why in one line on standard error, and its status is not 0: 1, or 2 where an argument is wrong.
+# What the tools that are written for bash have in common. A tool sets `usage`, whose first line is 'usage: ..', and sources this. `top` is then the root of the repository, in which `crates_of` and all
+# that uses it must be run. A tool that fails says why in one line on standard error, and its status is not 0: 1, or 2 where an argument or the input is wrong. A tool whose output nobody reads any more
+# ends with 141, as others do in a pipe.
 set -euo pipefail
 # What is said to a standard error that is closed is lost, and nothing fails for that.
 { : 3>&2; } || exec 2> /dev/null
-export TOOL="tools/${0##*/}"
+export FILKOTAR_TOOL="tools/${0##*/}"
 top=$(cd "$(dirname "$(readlink -f "$0")")/.." && pwd)
 
 failed() {
-    printf '%s: %s\n' "$TOOL" "$1" >&2
+    printf '%s: %s\n' "$FILKOTAR_TOOL" "$1" >&2
     exit "${2-1}"
 }
 
-# the arguments are no flags but --help, and there are so many of them
+# Prints the help where it is asked for; fails where an argument is a flag that is not known, or there are more or fewer than so many.
 expect() {
     local it
     for it in "${@:2}"; do
         case $it in
-            -h | --help) writable; printf '%s\n' "$usage"; exit 0 ;;
+            -h | --help) say "$usage"; exit 0 ;;
             - | -[0-9]*) ;;
             -*) failed "$it is no argument that is known: --help tells them" 2 ;;
         esac
@@ -29,17 +30,33 @@ writable() {
     { : 3>&1; } 2> /dev/null || failed 'standard output: it is closed'
 }
 
+say() {
+    writable
+    printf '%s\n' "$1" 2> /dev/null || failed 'standard output: it cannot be written'
+}
+
 readable() {
     { : 3<&0; } 2> /dev/null || failed 'standard input: it is closed' 2
     [ ! -d /dev/stdin ] || failed 'standard input: Is a directory' 2
 }
 
+python() {
+    command -v python3 > /dev/null || failed "there is no command 'python3' here, which $FILKOTAR_TOOL needs"
+}
+
+# Runs a script of Python's in place of this tool: script NAME ARGUMENT..
+script() {
+    python
+    [ ! -d /dev/stdin ] || failed 'standard input: Is a directory' 2
+    exec python3 "$top/tools/$1" "${@:2}"
+}
+
 # The input of a program in a file, as a script of Python's writes it: written SCRIPT ARGUMENT.. for a file whose name is then in `input`.
 written() {
-    command -v python3 > /dev/null || failed "there is no command 'python3' here: it reads the text"
+    python
     input=$(mktemp 2> /dev/null) || failed 'a temporary file cannot be made'
     trap 'rm -f "$input"' EXIT
-    OUTPUT='a temporary file' python3 "$top/tools/$1" "${@:2}" > "$input"
+    FILKOTAR_OUTPUT='a temporary file' python3 "$top/tools/$1" "${@:2}" > "$input"
 }
 
 # Runs a program on standard input. No program tells by its status that its output could not be written; `cat` does.
@@ -50,7 +67,7 @@ program() {
     path=$("$top/tools/built" "$1" < /dev/null) || exit 1
     exec 3>&1
     set +e
-    told=$("$path" | cat 2>&1 >&3; exit "$((PIPESTATUS[1] ? PIPESTATUS[1] : PIPESTATUS[0]))")
+    told=$("$path" | LC_ALL=C cat 2>&1 >&3; exit "$((PIPESTATUS[1] ? PIPESTATUS[1] : PIPESTATUS[0]))")
     status=$?
     set -e
     case $status in
@@ -79,12 +96,15 @@ crates_of() {
         }' crates.txt
 }
 
-# The checksum of all sources that a crate is made of.
+# The checksum of all sources that a crate is made of, and of what crates.txt says of it.
 sources() {
-    local it
+    local it all
+    all=$(crates_of "$1")
     {
-        crates_of "$1"
-        for it in $(crates_of "$1"); do
+        for it in $all; do
+            grep "^$it[ :]" crates.txt
+        done
+        for it in $all; do
             find "crates/$it" -path "crates/$it/out" -prune -o -type f \( -name '*.rt' -o -name '*.antt' \) -print0
         done | LC_ALL=C sort -z | xargs -0 sha256sum
     } | sha256sum
@@ -140,7 +160,7 @@ noted() {
 # prove CRATE COMMAND..: has rt prove and build a crate and those below it. Each is named as it is proved, with how many are left; where one is not, what rt says is shown. `narrowed` is then what
 # rt says of the processors that it compiled for, where these are not all.
 prove() {
-    local crate=$1 it='' all todo said=() line before='' broken=''
+    local crate=$1 it='' all todo said=() line before='' broken='' ended=''
     narrowed=
     command -v rt > /dev/null || failed "there is no command 'rt' here: the Rattle toolchain is needed to build $crate"
     all=$(crates_of "$crate")
@@ -150,9 +170,9 @@ prove() {
     todo=" $(unproved $all)"
     it=$(count $todo)
     if [ "$it" -gt 0 ]; then
-        echo "$TOOL: $crate is proved before it is built: crates to prove: $it, from nothing about $((it / 4 + 1)) min" >&2
+        echo "$FILKOTAR_TOOL: $crate is proved before it is built: crates to prove: $it, from nothing about $((it / 4 + 1)) min" >&2
     else
-        echo "$TOOL: $crate is built, which takes some seconds" >&2
+        echo "$FILKOTAR_TOOL: $crate is built, which takes some seconds" >&2
     fi
     while IFS= read -r line; do
         case $line in
@@ -169,7 +189,9 @@ prove() {
                 said=()
                 [[ $line != *' cpu='* ]] || narrowed=$line ;;
             'logic=not-proved'*) broken=$it ;;
-            'rt ends with 0') [ -z "${todo// /}" ] || echo "    proved before: $crate; left: 0" >&2 ;;
+            'rt ends with 0')
+                ended=yes
+                [ -z "${todo// /}" ] || echo "    proved before: $crate; left: 0" >&2 ;;
             'rt ends with '*)
                 [ -z "$broken" ] || [ "$broken" = "$crate" ] || crate="$broken is not proved, and $crate"
                 [ ${#said[@]} -gt 0 ] || failed "$crate is not built; rt said nothing"
@@ -179,6 +201,7 @@ prove() {
             *) said+=("$line") ;;
         esac
     done < <(cd "crates/$crate" && "${@:2}" < /dev/null 2>&1 && echo 'rt ends with 0' || echo 'rt ends with 1')
+    [ -n "$ended" ] || failed "$crate is not built; rt was stopped"
     for it in $all; do
         noted "$it"
     done

@@ -70,20 +70,11 @@ def are_commands(lines):
     return first[0].upper() in commands.KINDS
 
 
-def printed(name, data, count):
-    """The lines that a program prints of these bytes, of which there must be so many."""
-    path = path_of(name)
-    lines = output_of(path, data)
-    if len(lines) != count:
-        raise Failed(f'{path} printed {len(lines)} lines, not {count}')
-    return lines
-
-
 def commands_picture(lines):
     """The exit status for commands, and their picture; none where a line is bad."""
     stream = commands.read(lines)
     status = stream.status()
-    return status, '' if stream.bad else commands_drawn(stream.commands, printed('stream', stream.bytes(), len(stream.commands) + 2))
+    return status, '' if stream.bad else commands_drawn(stream.commands, output_of(path_of('stream'), stream.bytes(), len(stream.commands) + 2))
 
 
 def take_picture(lines, asked):
@@ -95,7 +86,7 @@ def take_picture(lines, asked):
     columns = columns_of(take, asked.get('--columns', 100)) if asked or len(take.values) > LONG else None
     own = take.requests
     take.requests = [it for column in columns or [] for it in column.requests(budget)] + own
-    return 0, take_drawn(take.values, own, printed('lookup', take.bytes(), len(take.requests) + 3), columns, budget)
+    return 0, take_drawn(take.values, own, output_of(path_of('lookup'), take.bytes(), len(take.requests) + 3), columns, budget)
 
 
 def main(given):

@@ -4,7 +4,7 @@ All answers are those of the stream program; here they are only told apart.
 """
 from typing import NamedTuple, Optional
 
-from chart import (EDGE, RIGHT, SMALL, Dot, Entry, Group, Plot, Span, beyond, counted, cross, dots_drawn, few, grid, ground, headed, legend, notes, places, spans_drawn, style, values_line)
+from chart import (RIGHT, SMALL, Dot, Entry, Group, Plot, Span, beyond, counted, cross, dots_drawn, few, grid, ground, headed, legend, notes, places, spans_drawn, style, values_line)
 from replies import REPLIES, decibels, refused
 from svg import circle, document, line, path, rect, text, title, width_of
 

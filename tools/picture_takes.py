@@ -6,7 +6,7 @@ All answers are those of `lookup`. The columns' requests go before those of the 
 from typing import NamedTuple, Optional
 
 import takes
-from chart import (EDGE, HATCH, PLOT_HEIGHT, RIGHT, Dot, Entry, Group, Plot, Span, beyond, counted, cross, dots_drawn, few, grid, ground, headed, legend, notes, places, spans_drawn, style,
+from chart import (HATCH, PLOT_HEIGHT, RIGHT, Dot, Entry, Group, Plot, Span, beyond, counted, cross, dots_drawn, few, grid, ground, headed, legend, notes, places, spans_drawn, style,
                    values_line)
 from lines import four_bytes
 from replies import REPLIES, decibels

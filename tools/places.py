@@ -137,8 +137,9 @@ def point_8():
 def main():
     wanted = sys.argv[1:] or [str(n) for n in range(1, 9)]
     if not set(wanted) <= set("12345678"):
-        print(__doc__ + "\nA point is a number from 1 to 8; without one, all are counted.")
-        return 0 if wanted == ["--help"] else 2
+        asked = wanted == ["--help"]
+        print(__doc__ + " A point is a number from 1 to 8; without one, all are counted.", file=sys.stdout if asked else sys.stderr)
+        return 0 if asked else 2
     for n in wanted:
         count = globals()[f"point_{n}"]
         places = list(count())

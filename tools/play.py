@@ -32,13 +32,13 @@ import sys
 # no files of Python's own beside these
 sys.dont_write_bytecode = True
 from commands import LIMIT, command, read
-from lines import BadLine, Failed, arguments, lines_of, run
+from lines import BadLine, arguments, lines_of, run, write
 from programs import output_of, path_of
 from replies import decibels, refused
 
 
-def in_words(line, command, present, room):
-    """What a line of the stream program says: the command that it answers, if any, the present position once it is answered, and how many marks there is room for."""
+def in_words(line, it, present, room):
+    """What a line of the stream program says. It answers a command, but for the first and the last line; then the present position is this, and there is room for so many marks."""
     words = line.split()
     if words[0] == 'taps':
         return f'room for {words[1]} marks at a time'
@@ -46,14 +46,14 @@ def in_words(line, command, present, room):
         return f'commands read: {words[1]}, accepted: {words[2]}; marks active: {words[3]}'
     number = int(words[2])
     if number != 0:
-        return f'refused with {number}: {refused(number, command.argument, present, room)}'
-    if command.letter == 'V':
-        return f'headroom {decibels(command.argument)} at {present}{", clipping" if command.argument < 0 else ""}'
-    if command.letter == 'M':
+        return f'refused with {number}: {refused(number, it.argument, present, room)}'
+    if it.letter == 'V':
+        return f'headroom {decibels(it.argument)} at {present}{", clipping" if it.argument < 0 else ""}'
+    if it.letter == 'M':
         return f'a layer starts at {present}'
-    if command.letter == 'Q':
-        return f'least headroom since {command.argument}: {decibels(int(words[3]))} at {words[4]}'
-    return f'the layer since {command.argument} is forgotten'
+    if it.letter == 'Q':
+        return f'least headroom since {it.argument}: {decibels(int(words[3]))} at {words[4]}'
+    return f'the layer since {it.argument} is forgotten'
 
 
 def explained(lines, commands):
@@ -70,10 +70,7 @@ def explained(lines, commands):
 
 def transcript(path, commands):
     """All of it, as the stream program prints it: a line for its room, one for each command, and one for the counts."""
-    lines = output_of(path, b''.join(it.bytes() for it in commands))
-    if len(lines) != len(commands) + 2:
-        raise Failed(f'{path} printed {len(lines)} lines for {len(commands)} commands')
-    return explained(lines, commands)
+    return explained(output_of(path, b''.join(it.bytes() for it in commands), len(commands) + 2), commands)
 
 
 def beside(found, width):
@@ -85,6 +82,8 @@ def typed(path):
     """Answers each line as it is typed."""
     with contextlib.suppress(ImportError):
         import readline  # noqa: F401, lines can be edited and called up again
+    # as the lines of a file are read
+    sys.stdin.reconfigure(encoding='utf-8', errors='replace')
     prompt = '> ' if sys.stdout.isatty() else ''
     width = 14
     commands = []
@@ -125,9 +124,7 @@ def main(given):
         return stream.status()
     found = transcript(path_of('stream'), stream.commands)
     width = max(len(line) for line, _ in found)
-    for it in found:
-        print(beside(it, width))
-    sys.stdout.flush()
+    write(''.join(f'{beside(it, width)}\n' for it in found))
     return stream.status()
 
 

@@ -15,11 +15,11 @@ def path_of(name):
         raise Failed(f'tools/built: {why.strerror}') from None
     if said.returncode != 0:
         raise Failed(None)
-    return said.stdout.decode().rstrip('\n')
+    return os.fsdecode(said.stdout).rstrip('\n')
 
 
-def output_of(path, data):
-    """The lines that the program prints of these bytes."""
+def output_of(path, data, count):
+    """The lines that the program prints of these bytes, of which there must be so many."""
     try:
         said = subprocess.run([path], input=data, capture_output=True)
     except OSError as why:
@@ -28,4 +28,7 @@ def output_of(path, data):
         raise Failed(f'{path} ended with 127: it is built for x86-64-v2, and this processor is older')
     if said.returncode != 0:
         raise Failed(f'{path} ended with {said.returncode}')
-    return said.stdout.decode().splitlines()
+    lines = said.stdout.decode().splitlines()
+    if len(lines) != count:
+        raise Failed(f'{path} printed {len(lines)} lines, and not {count}')
+    return lines

@@ -144,8 +144,9 @@ def turn_rt(text, turned, used):
 
 def main():
     if not set(sys.argv[1:]) <= {"--force", "--table"}:
-        print(__doc__.strip())
-        return 0 if "--help" in sys.argv else 2
+        asked = "--help" in sys.argv
+        print(__doc__.strip() if asked else __doc__.strip().splitlines()[0], file=sys.stdout if asked else sys.stderr)
+        return 0 if asked else 2
     root = subprocess.run(["git", "rev-parse", "--show-toplevel"], capture_output=True, text=True, check=True).stdout.strip()
     turned = table(root)
     written, bad = {}, []

@@ -39,7 +39,7 @@ CASES = [
     (b'V 12 # loud\nM # here\n', '', 1, ['line 1: a comment stands on a line of its own', 'line 2: a comment stands on a line of its own']),
     (b'V ' + b'x' * 5000 + b'\n' + b'y' * 5000, '', 1, ["line 1: '" + 'x' * 36 + " ..' is not a whole number", "line 2: unknown command '" + 'y' * 36 + " ..': it is V, M, Q or C"]),
     (b'V 1.5\nV x\nV 1_0\nV --1\nV 0x1\nV \xd9\xa1\nV \xff\n', '', 1, ['is not a whole number'] * 7),
-    (b'V \xe2\x80\x933\n', '', 1, ["line 1: '\u20133' is not a whole number; its minus sign is - or \u2212"]),
+    (b'V \xe2\x80\x933\n', '', 1, ['is not a whole number; its minus sign is - or ']),
     # as many bytes as the stream program reads, and a command more: what fits is written, and the line on which the limit falls is said
     (b'V 7\n' * 3276 + b'M\n' * 4, '01 07000000' * 3276 + '02' * 4, 0, []),
     (b'# a comment\n' + b'V 7\n' * 3276 + b'M\n' * 5, '01 07000000' * 3276 + '02' * 4, 3, ['line 3282: the stream program reads no more than 16384 bytes']),
@@ -77,7 +77,7 @@ def main():
     result = run(TOOL, [''])
     checks.check('no name', one_line(result, 2, "'': No such file or directory"), result)
     refuses_arguments(checks, TOOL, 'usage: commands.py [-k] [FILE]', ['a', 'b'])
-    fails_to_write(checks, TOOL, ['-'])
+    fails_to_write(checks, TOOL, ['-'], b'M\n')
     checks.end()
 
 

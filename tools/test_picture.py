@@ -132,10 +132,11 @@ def told_of(lines, of_commands):
     """What the programs tell of these lines: the least values with their places, and a pattern of each refusal, as the picture must say it."""
     if of_commands:
         given = commands.read(lines).commands
-        told = [it.split()[2:] for it in output_of(picture.path_of('stream'), b''.join(it.bytes() for it in given))[1:-1]]
+        told = [it.split()[2:] for it in output_of(picture.path_of('stream'), b''.join(it.bytes() for it in given), len(given) + 2)[1:-1]]
         both = list(enumerate(zip(given, told), start=1))
         return {(it[1], it[2]) for _, (_, it) in both if len(it) == 3}, [rf'command {n}(, {it}, refused with {reply[0]}: | \({it}\) at )' for n, (it, reply) in both if reply[0] != '0']
-    told = [it.split()[1:] for it in output_of(picture.path_of('lookup'), takes.read(lines)[0].bytes())[2:-1]]
+    given = takes.read(lines)[0]
+    told = [it.split()[1:] for it in output_of(picture.path_of('lookup'), given.bytes(), len(given.requests) + 3)[2:-1]]
     refusals = [['stretch', '0'], *([name, reply] for name in ('search', 'rough') for reply in ('14', '15'))]
     return {(it[2], it[3]) for it in told if it[:2] == ['search', '0']}, [rf'request {n} \({it[0]} ' for n, it in enumerate(told, start=1) if it[:2] in refusals]
 
@@ -196,9 +197,6 @@ def main():
         checks.check(arguments, right(result, status, b'', messages), result)
     result = run('picture', ['-'], b'V 7\n' * 3277)
     checks.check('a stream that is cut', b'over 3276 values' in result.stdout and right(result, 3, result.stdout, ['line 3277: the stream program reads']), result)
-    with tempfile.TemporaryDirectory() as folder:
-        result = run('picture', ['-'], env={'PATH': folder})
-    checks.check('no python3', one_line(result, 1, "tools/picture: there is no command 'python3' here: it draws the picture"), result)
     refuses_arguments(checks, 'picture', 'usage: tools/picture [--looks B] [--columns C] FILE', [], ['a', 'b'])
     fails_to_write(checks, 'picture', ['-'])
     checks.end()

@@ -15,8 +15,6 @@ sys.dont_write_bytecode = True
 from checks import HERE, Checks, fails_to_write, one_line, refuses_arguments, right, run
 from programs import path_of
 
-TOP = os.path.dirname(HERE)
-
 EXAMPLE = 'V 12\nM\nV −3\nQ 1\nC 1\nQ 1\n'
 SAID = '''\
 taps 60       room for 60 marks at a time
@@ -64,7 +62,7 @@ def played(checks):
     checks.check('-k', result.returncode == 1 and b'\n2 M 0' in result.stdout and b'\nend 2 2 1' in result.stdout and b'line 2: ' in result.stderr, result)
     result = run('play', [], b'V 1\n' * 3300)
     checks.check('the limit', result.returncode == 3 and b'\nend 3276 3276 0' in result.stdout and result.stderr.startswith(b'line 3277: the stream program reads'), result)
-    for name in ('absent', TOP):
+    for name in ('absent', '/'):
         result = run('play', [name])
         checks.check(name, one_line(result, 2, f'tools/play: {name}: '), result)
     refuses_arguments(checks, 'play', 'usage: tools/play [-k] [FILE]', ['a', 'b'])
@@ -94,24 +92,25 @@ def typed(checks):
     try:
         screen, end = pty.openpty()
     except OSError as why:
-        print(f'no terminal can be opened here, and nothing is typed: {why.strerror}', file=sys.stderr)
+        print(f'no terminal can be opened here, and nothing is typed: {why}', file=sys.stderr)
         return
-    with subprocess.Popen([os.path.join(HERE, 'play')], stdin=end, stdout=end, stderr=end) as tool:
-        os.close(end)
-        lines = []
-        for line in [None, *TYPED]:
-            if line is not None:
-                os.write(screen, line)
+    tool = subprocess.Popen([os.path.join(HERE, 'play')], stdin=end, stdout=end, stderr=end)
+    os.close(end)
+    lines = []
+    try:
+        for line in [b'', *TYPED]:
+            os.write(screen, line)
             seen = b''
             while not seen.endswith(b'> ') and select.select([screen], [], [], 30)[0]:
                 try:
                     seen += os.read(screen, 4096)
                 except OSError:
                     break
-            lines += [it for it in seen.decode().replace('\r', '').split('\n') if '    ' in it or 'command' in it]
+            lines += [it for it in seen.decode(errors='replace').replace('\r', '').split('\n') if '    ' in it or 'command' in it]
+    finally:
         tool.kill()
         status = tool.wait()
-    os.close(screen)
+        os.close(screen)
     checks.check('typed', status in (0, -signal.SIGKILL) and len(lines) == len(SHOWN) and all(a.endswith(b) for a, b in zip(lines, SHOWN)), (status, lines))
 
 
@@ -131,21 +130,21 @@ for crate in $PROVES; do
 done
 [ -z "$FAILS" ] || { echo "crate $FAILS: modules loaded=0 checked=1"; echo 'logic=not-proved'; echo 'no proof: f'; exit 1; }
 [ "$1" != lib ] || { mkdir -p out && echo archive > out/libfirmware_c.a; exit; }
-[ -n "$NO_BINARY" ] || { mkdir -p out && printf '#!/bin/sh\\ncat\\n' > out/high && chmod +x out/high; }
+[ -n "$NO_BINARY" ] || { mkdir -p out && printf '#!/bin/sh\\n%s\\n' "${PROGRAM-cat}" > out/stream && chmod +x out/stream; }
 '''
 
 
 def copied(folder, *, rt=True, python=True):
-    """A repository of three crates, a program `high` and the library `firmware_c` above `low`, with the tools of this one; and what stands in PATH."""
-    for name in ('low', 'high', 'firmware_c'):
+    """A repository of three crates, a program `stream` and the library `firmware_c` above `low`, with the tools of this one; and what stands in PATH."""
+    for name in ('low', 'stream', 'firmware_c'):
         os.makedirs(os.path.join(folder, 'crates', name, 'src'))
-    for name in ('low/src/lib.rt', 'high/src/main.rt', 'firmware_c/src/lib.rt', '../crates.txt'):
+    for name in ('low/src/lib.rt', 'stream/src/main.rt', 'firmware_c/src/lib.rt', '../crates.txt'):
         with open(os.path.join(folder, 'crates', name), 'w') as f:
-            f.write('low:\nhigh: low io\nfirmware_c staticlib: low\n' if name.endswith('txt') else '// nothing\n')
+            f.write('low:\nstream: low io\nfirmware_c staticlib: low\n' if name.endswith('txt') else '// nothing\n')
     shutil.copytree(HERE, os.path.join(folder, 'tools'))
     commands = os.path.join(folder, 'commands')
     os.mkdir(commands)
-    for it in 'sh bash env chmod dirname readlink cat sha256sum find awk tac sort xargs sed stat ls wc mkdir mktemp rm cp mv'.split() + ['python3'] * python:
+    for it in 'sh bash env chmod dirname readlink cat sha256sum grep find awk sort xargs sed stat ls wc mkdir mktemp rm cp mv'.split() + ['python3'] * python:
         os.symlink(sys.executable if it == 'python3' else shutil.which(it), os.path.join(commands, it))
     if rt:
         with open(os.path.join(commands, 'rt'), 'w') as f:
@@ -160,9 +159,9 @@ def built(checks):
         commands = copied(folder)
         calls = os.path.join(folder, 'calls')
 
-        def build(user=None, tool=('built', 'high'), **settings):
-            names = {'PATH': commands, 'CALLS': calls, 'KEPT': '', 'PROVES': 'low high', 'FAILS': '', 'SILENT': '', 'NO_BINARY': ''}
-            return subprocess.run([os.path.join(folder, 'tools', tool[0]), *tool[1:]], capture_output=True, env={**names, **settings}, **({} if user is None else {'user': user, 'group': user, 'extra_groups': []}))
+        def build(user=None, tool=('built', 'stream'), text=b'', **settings):
+            names = {'PATH': commands, 'CALLS': calls, 'KEPT': '', 'PROVES': 'low stream', 'FAILS': '', 'SILENT': '', 'NO_BINARY': ''}
+            return subprocess.run([os.path.join(folder, 'tools', tool[0]), *tool[1:]], input=text, capture_output=True, env={**names, **settings}, **({} if user is None else {'user': user, 'group': user, 'extra_groups': []}))
 
         def asked():
             if not os.path.exists(calls):
@@ -170,27 +169,27 @@ def built(checks):
             with open(calls) as f:
                 return len(f.readlines())
 
-        path = os.path.join(folder, 'crates', 'high', 'out', 'high')
+        path = os.path.join(folder, 'crates', 'stream', 'out', 'stream')
         done = os.fsencode(path) + b'\n'
         result = build(NO_BINARY='1')
-        checks.check('no binary', result.returncode == 1 and result.stderr.endswith(b'tools/built: rt built no crates/high/out/high\n') and asked() == 1, result)
-        result = build(FAILS='high', PROVES='low')
-        checks.check('no proof', result.returncode == 1 and result.stderr.endswith(b'no proof: f\ntools/built: high is not built; rt said the above\n') and b'statements' not in result.stderr, result)
+        checks.check('no binary', result.returncode == 1 and result.stderr.endswith(b'tools/built: rt built no crates/stream/out/stream\n') and asked() == 1, result)
+        result = build(FAILS='stream', PROVES='low')
+        checks.check('no proof', result.returncode == 1 and result.stderr.endswith(b'no proof: f\ntools/built: stream is not built; rt said the above\n') and b'statements' not in result.stderr, result)
         result = build(FAILS='low', PROVES='')
-        checks.check('no proof below', result.returncode == 1 and result.stderr.endswith(b'no proof: f\ntools/built: low is not proved, and high is not built; rt said the above\n'), result)
+        checks.check('no proof below', result.returncode == 1 and result.stderr.endswith(b'no proof: f\ntools/built: low is not proved, and stream is not built; rt said the above\n'), result)
         result = build(SILENT='1')
-        checks.check('rt says nothing', result.returncode == 1 and result.stderr.endswith(b'tools/built: high is not built; rt said nothing\n'), result)
+        checks.check('rt says nothing', result.returncode == 1 and result.stderr.endswith(b'tools/built: stream is not built; rt said nothing\n'), result)
         os.unlink(calls)
         result = build()
-        checks.check('from nothing', right(result, 0, done, ['tools/built: high is proved before it is built: crates to prove: 2, from nothing about 1 min', '    proved: low; left: 1', '    proved: high; left: 0']), result)
+        checks.check('from nothing', right(result, 0, done, ['tools/built: stream is proved before it is built: crates to prove: 2, from nothing about 1 min', '    proved: low; left: 1', '    proved: stream; left: 0']), result)
         count = asked()
         result = build()
         checks.check('at once', right(result, 0, done, []) and asked() == count, result)
         result = build(PATH=commands.replace('commands', 'no_commands') + ':' + commands)
         checks.check('another PATH', right(result, 0, done, []) and asked() == count, result)
         os.unlink(path)
-        result = build(KEPT='low', PROVES='high')
-        checks.check('the program is gone', result.returncode == 0 and result.stdout == done and asked() == count + 1 and b'    proved before: low; left: 1\n    proved: high; left: 0\n' in result.stderr, result)
+        result = build(KEPT='low', PROVES='stream')
+        checks.check('the program is gone', result.returncode == 0 and result.stdout == done and asked() == count + 1 and b'    proved before: low; left: 1\n    proved: stream; left: 0\n' in result.stderr, result)
         with open(path, 'a') as f:
             f.write('# not what was built\n')
         result = build()
@@ -198,7 +197,26 @@ def built(checks):
         with open(os.path.join(folder, 'crates', 'low', 'src', 'lib.rt'), 'a') as f:
             f.write('// more\n')
         result = build()
-        checks.check('a source below is another', result.returncode == 0 and asked() == count + 3 and b'proved: high' in result.stderr, result)
+        checks.check('a source below is another', result.returncode == 0 and asked() == count + 3 and b'proved: stream' in result.stderr, result)
+        with open(os.path.join(folder, 'crates.txt'), 'a') as f:
+            f.write('# more\n')
+        result = build()
+        checks.check('crates.txt says more', right(result, 0, done, []), result)
+        with open(os.path.join(folder, 'crates.txt')) as f:
+            text = f.read()
+        with open(os.path.join(folder, 'crates.txt'), 'w') as f:
+            f.write(text.replace('stream: low io', 'stream: low'))
+        result = build()
+        checks.check('crates.txt says other things of it', result.returncode == 0 and asked() == count + 4, result)
+        # a program that ends without reading all of its input, as on an older processor
+        os.unlink(path)
+        build(PROGRAM='exit 127')
+        for tool in ('play', 'stream'):
+            for text in (b'', b'V 1\n' * 3000):
+                result = build(tool=[tool], text=text)
+                checks.check((tool, '127'), result.returncode == 1 and b'ended with 127: it is built for x86-64-v2' in result.stderr and result.stderr.count(b'\n') == 1, result)
+        os.unlink(path)
+        build()
         os.chmod(path, 0o644)
         result = build()
         checks.check('the program cannot be run', result.returncode == 0 and result.stdout == done and os.access(path, os.X_OK), result)
@@ -223,26 +241,26 @@ def built(checks):
 
     with tempfile.TemporaryDirectory() as folder:
         commands = copied(folder)
-        os.chmod(folder, 0o755)
+        # whatever the umask of this test and of the clone
+        subprocess.run(['chmod', '-R', 'a+rX', folder], check=True)
         os.chmod(os.path.join(folder, 'crates', 'low'), 0o555)
         # to the superuser every folder is writable, so nobody builds
         try:
             result = build(65534 if os.geteuid() == 0 else None)
-            checks.check('an unwritable folder', one_line(result, 1, 'tools/built: crates/low/out cannot be written: high is not built'), result)
+            checks.check('an unwritable folder', one_line(result, 1, 'tools/built: crates/low/out cannot be written: stream is not built'), result)
         except (OSError, subprocess.SubprocessError) as why:
             print(f'the user nobody cannot run a tool in {folder}, and no unwritable folder is tried: {why}', file=sys.stderr)
         os.chmod(os.path.join(folder, 'crates', 'low'), 0o755)
         with open(os.path.join(folder, 'target'), 'w'):
             pass
         result = build()
-        checks.check('no folder for what is kept', one_line(result, 1, 'tools/built: target/built cannot be written: high is not built'), result)
+        checks.check('no folder for what is kept', one_line(result, 1, 'tools/built: target/built cannot be written: stream is not built'), result)
 
     with tempfile.TemporaryDirectory() as folder:
         commands = copied(folder, python=False)
-        for tool in ('play', 'limiter', 'lookup'):
-            arguments = {'play': [], 'limiter': ['1', '-'], 'lookup': ['-']}[tool]
+        for tool, *arguments in (['play'], ['picture', '-'], ['limiter', '1', '-'], ['lookup', '-']):
             result = subprocess.run([os.path.join(folder, 'tools', tool), *arguments], capture_output=True, input=b'', env={'PATH': commands})
-            checks.check((tool, 'no python3'), one_line(result, 1, f"tools/{tool}: there is no command 'python3' here"), result)
+            checks.check((tool, 'no python3'), one_line(result, 1, f"tools/{tool}: there is no command 'python3' here, which tools/{tool} needs"), result)
 
 
 def main():
