@@ -37,6 +37,10 @@ say() {
 
 readable() {
     { : 3<&0; } 2> /dev/null || failed 'standard input: it is closed' 2
+    no_folder
+}
+
+no_folder() {
     [ ! -d /dev/stdin ] || failed 'standard input: Is a directory' 2
 }
 
@@ -47,7 +51,7 @@ python() {
 # Runs a script of Python's in place of this tool: script NAME ARGUMENT..
 script() {
     python
-    [ ! -d /dev/stdin ] || failed 'standard input: Is a directory' 2
+    no_folder
     exec python3 "$top/tools/$1" "${@:2}"
 }
 
@@ -124,18 +128,13 @@ unproved() {
 }
 
 # Whether a file is what was built of a crate as it now is, by the toolchain that there is: the file of this name in target/built tells.
-state() {
-    sources "$1"
-    sha256sum < "$2"
-    toolchain || sed -n 3p "target/built/$3"
-}
-
 current() {
-    [ -f "$2" ] && [ -f "target/built/$3" ] && [ "$(state "$@")" = "$(cat "target/built/$3")" ]
+    [ -f "$2" ] && [ -f "target/built/$3" ] && [ "$(sources "$1"; sha256sum < "$2"; toolchain || sed -n 3p "target/built/$3")" = "$(cat "target/built/$3")" ]
 }
 
+# Keeps of what a file was built: of the sources as they were when the proving began, so that a source which has changed since is proved anew.
 keep() {
-    state "$@" > "target/built/$3" 2> /dev/null || failed "target/built/$3 cannot be written"
+    { echo "$made_of"; sha256sum < "$1"; toolchain; } > "target/built/$2" 2> /dev/null || failed "target/built/$2 cannot be written"
 }
 
 # How many words there are.
@@ -157,13 +156,14 @@ noted() {
     { mkdir -p target/proved && { sources "$1"; toolchain; } > "target/proved/$1"; } 2> /dev/null || true
 }
 
-# prove CRATE COMMAND..: has rt prove and build a crate and those below it. Each is named as it is proved, with how many are left; where one is not, what rt says is shown. `narrowed` is then what
-# rt says of the processors that it compiled for, where these are not all.
+# prove CRATE COMMAND..: has rt prove and build a crate and those below it. Each is named as it is proved, with how many are left; where one is not, what rt says is shown. `made_of` is then
+# the checksum of the sources, and `narrowed` what rt says of the processors that it compiled for, where these are not all.
 prove() {
     local crate=$1 it='' all todo said=() line before='' broken='' ended=''
     narrowed=
     command -v rt > /dev/null || failed "there is no command 'rt' here: the Rattle toolchain is needed to build $crate"
     all=$(crates_of "$crate")
+    made_of=$(sources "$crate")
     for it in $(printf 'crates/%s/out ' $all) target/built; do
         { mkdir -p "$it" && [ -w "$it" ]; } 2> /dev/null || failed "$it cannot be written: $crate is not built"
     done

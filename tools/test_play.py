@@ -118,6 +118,7 @@ def typed(checks):
 RT = '''#!/bin/sh
 echo called >> "$CALLS"
 [ -z "$SILENT" ] || exit 1
+[ -z "$EDITS" ] || echo '// more' >> ../low/src/lib.rt
 for crate in $KEPT; do
     echo "rt: $crate: begins with what a check kept in /elsewhere/$crate"
 done
@@ -160,7 +161,7 @@ def built(checks):
         calls = os.path.join(folder, 'calls')
 
         def build(user=None, tool=('built', 'stream'), text=b'', **settings):
-            names = {'PATH': commands, 'CALLS': calls, 'KEPT': '', 'PROVES': 'low stream', 'FAILS': '', 'SILENT': '', 'NO_BINARY': ''}
+            names = {'PATH': commands, 'CALLS': calls, 'KEPT': '', 'PROVES': 'low stream', 'FAILS': '', 'SILENT': '', 'EDITS': '', 'NO_BINARY': ''}
             return subprocess.run([os.path.join(folder, 'tools', tool[0]), *tool[1:]], input=text, capture_output=True, env={**names, **settings}, **({} if user is None else {'user': user, 'group': user, 'extra_groups': []}))
 
         def asked():
@@ -187,7 +188,14 @@ def built(checks):
         checks.check('at once', right(result, 0, done, []) and asked() == count, result)
         result = build(PATH=commands.replace('commands', 'no_commands') + ':' + commands)
         checks.check('another PATH', right(result, 0, done, []) and asked() == count, result)
+        result = build(EDITS='1')
+        checks.check('nothing to do', asked() == count, result)
         os.unlink(path)
+        build(EDITS='1')
+        result = build()
+        checks.check('a source is edited while rt works', result.returncode == 0 and asked() == count + 2, result)
+        os.unlink(path)
+        count += 2
         result = build(KEPT='low', PROVES='stream')
         checks.check('the program is gone', result.returncode == 0 and result.stdout == done and asked() == count + 1 and b'    proved before: low; left: 1\n    proved: stream; left: 0\n' in result.stderr, result)
         with open(path, 'a') as f:
