@@ -38,10 +38,10 @@ def number(word, least, greatest):
         raise BadLine(f'{short(word)!r} is not a whole number{dash}')
     sign, digits = found.groups()
     # No number in range has more than ten digits, and int() refuses those with thousands.
-    value = int(digits) if len(digits) <= 10 else None
-    if value is None or not least <= (value if sign in ('', '+') else -value) <= greatest:
+    value = int(digits[:11]) * (1 if sign in ('', '+') else -1)
+    if len(digits) > 10 or not least <= value <= greatest:
         raise BadLine(f'{short(word)} is out of range: from {least} to {greatest}')
-    return value if sign in ('', '+') else -value
+    return value
 
 
 def four_bytes(n):
@@ -141,7 +141,6 @@ def run(main):
         status = why.status
     except KeyboardInterrupt:
         status = 130
-    if sys.stderr is not None:
-        sys.stderr.flush()
+    sys.stderr.flush()
     # What could not be written is not tried again.
     os._exit(status)

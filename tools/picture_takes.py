@@ -223,6 +223,7 @@ def signs(told, dots):
     yield Entry(lambda x, y: line(x, y, x + 18, y, 'faint' if told.columns else 'values'), 18, 'values')
     if told.columns:
         yield Entry(lambda x, y: path(f'M{x} {y + 3}h9v-6h9', 'exact'), 18, 'least value of each column')
+    if any(len(it.figures()) == 2 for it in of_columns):
         yield Entry(lambda x, y: rect(x, y - 5, 18, 10, 'band'), 18, 'where a rough reading puts it')
     if own:
         yield Entry(lambda x, y: rect(x, y - 5, 18, 10, 'rough'), 18, 'rough reading: the least lies in here')
