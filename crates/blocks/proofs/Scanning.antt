@@ -24,7 +24,7 @@ abbrev first : Position
 first = record { 0 = 1 }
 
 -- the least of the first k values, or of the first one at the start
-abbrev LeastSoFar : List ℤ → ℕ → ℤ → Type 0
+abbrev pub LeastSoFar : List ℤ → ℕ → ℤ → Type 0
 LeastSoFar vs k m = m ≡ (minimum_from (take (max k 1) vs) 0).value
 
 alone : (vs : List ℤ) → 0 < length vs → (minimum_from (take 1 vs) 0).value ≡ get_or vs 0 (pos 0)
@@ -32,11 +32,11 @@ unfolding lowest
 alone [] h = absurd (omega arith)
 alone (v ∷ vs) h = refl
 
-so_far_first : (vs : List ℤ) → 0 < length vs → LeastSoFar vs 0 (get_or vs 0 (pos 0))
+pub so_far_first : (vs : List ℤ) → 0 < length vs → LeastSoFar vs 0 (get_or vs 0 (pos 0))
 so_far_first vs h = sym (alone vs h)
 
 -- one value more
-so_far_more : (vs : List ℤ) (k : ℕ) (m : ℤ) → k < length vs → LeastSoFar vs k m
+pub so_far_more : (vs : List ℤ) (k : ℕ) (m : ℤ) → k < length vs → LeastSoFar vs k m
     → LeastSoFar vs (k + 1) (cond (takes_over (get_or vs k (pos 0)) m) (get_or vs k (pos 0)) m)
 so_far_more vs zero m h e = both (takes_over (get_or vs 0 (pos 0)) m)
   where

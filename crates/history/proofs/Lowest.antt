@@ -160,6 +160,11 @@ minimum_later_place vs i j z o h e =
       | no n ↦ omega arith
     ]
 
+-- two positions whose minima stand at one place have one minimum
+pub minimum_shared : (vs : List ℤ) (i j : Position) → 0 < i.0 → i.0 ≤ length vs → 0 < j.0 → j.0 ≤ length vs
+    → (minimum vs i).place.0 ≡ (minimum vs j).place.0 → minimum vs i ≡ minimum vs j
+minimum_shared vs i j z h y g = same_place vs (minimum_least vs i z h) (minimum_least vs j y g)
+
 -- where the minimum does not stand at its first position, it is the next one's too
 pub minimum_later : (vs : List ℤ) (i : Position) → 0 < i.0 → i.0 ≤ length vs → i.0 < (minimum vs i).place.0 → minimum vs (next i) ≡ minimum vs i
 minimum_later vs i z h l =

@@ -72,7 +72,7 @@ lines_more values index n (q ∷ qs) (g ∷ gs) r f a =
     ∙ ap (λ (x : ℕ). (request_line values index n q g ++ request_lines values next (n + 1) qs gs) ++ request_line values (index_after_all next qs) x r f) k
 
 -- a request that is read has its 13 bytes
-has_bytes : (bytes : List ℕ) (at : ℕ) {r : Request} → request_at bytes at ≡ Some r → at + 13 ≤ length bytes
+pub has_bytes : (bytes : List ℕ) (at : ℕ) {r : Request} → request_at bytes at ≡ Some r → at + 13 ≤ length bytes
 has_bytes bytes at e = elim (dec_lt (length bytes) (at + 13)) [
   | yes l ↦ absurd (let z : ◌≡◌ {A = ℕ} 0 1 = cc (cut_off bytes at l) in omega arith)
   | no l ↦ omega arith

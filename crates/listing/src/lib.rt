@@ -221,6 +221,8 @@ fn load(input: Input<'_, 65536>, heading: Heading, page: &mut Page<'_>)
 }
 
 // All that is printed of bytes that are all read.
+// Never inlined: `main` would fill its array for what is printed twice.
+#[inline(never)]
 fn play(input: Input<'_, 65536>, page: &mut Page<'_>)
     requires { HasRoom page.old 300532 }
     ensures { Plays input.entry.bytes.now page.old page.new }

@@ -18,6 +18,12 @@ values_more (suc n) at bytes =
     let k : at + 4 + 4 * n ≡ at + 4 * suc n = omega arith in
     ap (λ (x : List ℤ). value_at bytes at ∷ x) (values_more n (at + 4) bytes ∙ ap (λ (x : ℕ). values_from n (at + 4) bytes ++ (value_at bytes x ∷ [])) k)
 
+-- there are as many as were asked for
+pub values_length : (n at : ℕ) (bytes : List ℕ) → length (values_from n at bytes) ≡ n
+unfolding values_from
+values_length zero at bytes = refl
+values_length (suc n) at bytes = ap suc (values_length n (at + 4) bytes)
+
 -- a list whose first i are the first i values: none at first
 pub values_none : (at : ℕ) (bytes : List ℕ) → [] ≡ values_from 0 at bytes
 unfolding values_from

@@ -25,6 +25,7 @@ fn unopened(rt: &(impl Print + Drop)) -> io::Result<()> {
 
 // An older mark keeps its dip through many rounds, whose closed marks the merges leave behind. The area is opened for 4,096 marks, and two
 // at most are active together: the words from 512 + 64 * 2 on keep the pattern.
+#[inline(never)]
 fn many_merges(rt: &(impl Print + Drop)) -> io::Result<()> {
     let mut area = [0u64; 262656];
     compare::fill(&mut area);

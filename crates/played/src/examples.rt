@@ -6,6 +6,8 @@ use std::io;
 
 // Openings of the first words of an area that holds the pattern: the session, and how many words of the whole area, from an index on, each changed. A refused
 // opening changes no word, an accepted one none from 512 on.
+// Never inlined, here and in `edges::many_merges`: else both areas, of two mebibytes each, would stand in one frame.
+#[inline(never)]
 pub fn openings(rt: &(impl Print + Drop)) -> io::Result<()> {
     let mut area = [0u64; 262720];
     for (n, from) in [

@@ -38,7 +38,7 @@ header_inside s = record { long = s.long; beyond = λ i l. s.words i (omega arit
 pub within_inside : {written : Kind → Bool} {k : Lane} {end : Held} {w v : List ℕ} → Within written k end w v → end.0 ≤ 8207 → Inside w v
 within_inside a l = record { long = a.long; beyond = λ i b. a.beyond i (omega arith) }
 
-appended_inside : {w v : List ℕ} {e r : Extent} {p : Position} {x : ℕ} → Appended w v e p x r → Inside w v
+pub appended_inside : {w v : List ℕ} {e r : Extent} {p : Position} {x : ℕ} → Appended w v e p x r → Inside w v
 appended_inside {w} {e = e} a = ⊎_elim
     (λ (r : Room w e.capacity.0). within_inside a.within r.few)
     (λ (n : Room w e.capacity.0 → ⊥). nothing_done (a.idle (λ s. n s.room)).0)

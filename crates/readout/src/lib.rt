@@ -78,6 +78,8 @@ fn run(input: Input<'_, 65536>, area: &mut [u64], page: &mut Page<'_>)
 }
 
 // All that is printed of bytes that are all read. There is no heap, so that the words lent are the first of an array of fixed length.
+// Never inlined: `main` would fill its array for what is printed twice.
+#[inline(never)]
 fn play(input: Input<'_, 65536>, page: &mut Page<'_>)
     requires room { HasRoom page.old 540710 }
     ensures text { Puts page.old (printed_of input.entry.bytes.now) page.new }

@@ -3,7 +3,7 @@
 use mathlib.Core.Path.{refl, ap, ◌∙◌}
 use mathlib.Core.List.{List}
 use mathlib.Core.Logic.{⊎_elim}
-use Prim.Native.Nat.{ℕ, ◌+◌, ◌*◌, min}
+use Prim.Native.Nat.{ℕ, ◌+◌, ◌*◌, ◌≤◌, min}
 use native.Mathlib.Nat.{min-eq_left, min-eq_right}
 use native.Mathlib.Omega.{arith}
 use lib.Seq.{get_or-set_same, get_or-set_other}
@@ -38,6 +38,10 @@ module _ {w v : List ℕ} {k : Lane} {height : Place} {x : ℕ} {r : Place} (d :
   lowered_within =
       done (λ u y. Within by_stack k (record { 0 = height.0 }) w u) (λ n. untouched by_stack k (record { 0 = height.0 }) w)
       (λ o l. wrote by_stack k (record { 0 = height.0 }) w d.at.0 4 x (omega arith) l refl)
+
+  -- the stack gets no higher
+  pub lowered_height : r.0 ≤ height.0
+  lowered_height = done (λ u y. y.0 ≤ height.0) (λ n. omega arith) (λ o l. omega arith)
 
   -- the entry at the place is the new top
   grown : Room w height.0 → Under d.at height → Grown w (lowered w k d.at x) k d.at x (first w k d.at).0

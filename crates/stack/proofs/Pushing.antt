@@ -60,6 +60,10 @@ module _ {w v : List ℕ} {k : Lane} {height : Place} {rows : Held} {x : ℕ} {r
       (λ o. and_then by_stack k (record { 0 = height.0 + 1 }) (wrote by_stack k (record { 0 = height.0 + 1 }) w height.0 4 x (omega arith) (omega arith) refl)
       (wrote by_stack k (record { 0 = height.0 + 1 }) (set w (base_of k + 32 * height.0 + 4) x) height.0 5 rows.0 (omega arith) (omega arith) refl))
 
+  -- the stack gets higher by one place at most
+  pub pushed_height : r.0 ≤ height.0 + 1
+  pushed_height = done (λ u y. y.0 ≤ height.0 + 1) (λ n. omega arith) (λ o. omega arith)
+
   -- the entry at the height is the new top
   grown : Room w (height.0 + 1) → Grown w (pushed w k height rows x) k height x rows.0
   grown o = record {

@@ -24,7 +24,7 @@ tenth k n f = (
 )
 
 -- the fewest digits that hold n, where they are no more than `most`
-spelled : (most k n : ℕ) → k ≤ most → IsDigitCount 10 1 n k → last_digits 10 k n ≡ digits_within most n
+pub spelled : (most k n : ℕ) → k ≤ most → IsDigitCount 10 1 n k → last_digits 10 k n ≡ digits_within most n
 unfolding digits_within
 spelled zero k n l f = absurd (omega (arith, f.0))
 spelled (suc most) zero n l f = absurd (omega (arith, f.0))
@@ -33,7 +33,7 @@ spelled (suc most) (suc (suc k)) n l f =
     simp (le-ltb n 10 (omega (arith, least k n f, one-le-pow k 10 (omega arith))), spelled most (suc k) (n / 10) (omega arith) (tenth k n f))
 
 -- a number of 64 bits has no more than 20 digits
-few : (k n : ℕ) → n < 18446744073709551616 → IsDigitCount 10 1 n k → k ≤ 20
+pub few : (k n : ℕ) → n < 18446744073709551616 → IsDigitCount 10 1 n k → k ≤ 20
 few k n l f = elim (dec_lt 20 k) [
   | yes h ↦ absurd (omega (arith, f.2 (omega arith), pow-le-pow_right {n = 10} (omega arith) {i = 20} {j = k - 1} (omega arith)))
   | no h ↦ omega arith

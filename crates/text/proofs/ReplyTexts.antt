@@ -1,15 +1,26 @@
 -- The text of a reply to a command, and how large a reply's number is at most.
 use mathlib.Core.Path.{◌≡◌, refl, sym}
-use mathlib.Core.List.{append-nil}
-use Prim.Native.Nat.{◌<◌, ◌≤◌}
+use mathlib.Core.List.{List, append-nil}
+use Prim.Native.Nat.{ℕ, ◌<◌, ◌≤◌}
 use native.Mathlib.Omega.{arith}
 use lib.ListN.{length}
 use Rattle.history.specs.declared.Refusal.{Refusal}
 use Rattle.std.specs.Prelude.{None, Some, Ok, Err}
-use Rattle.history.specs.Replies.{Reply, number_of, told}
-use Rattle.text.specs.Writing.{decimal_of}
-use Rattle.text.specs.Parts.{minimum_text, shown_text, replied_text, reply_text}
+use Rattle.history.specs.Replies.{Reply, ToldOf, number_of, told}
+use Rattle.text.specs.Writing.{Adds, decimal_of}
+use Rattle.text.specs.Parts.{told_text, minimum_text, shown_text, replied_text, reply_text}
 use Rattle.text.proofs.Decimals.{within, byte_few}
+use Rattle.text.proofs.Texts.{then}
+
+module _ {Shown : Type 0} (text : Shown → List ℕ) (t : ToldOf Shown) where
+  -- the text of a reply that shows nothing
+  pub bare : {a b : List ℕ} {n u v : ℕ} → n ≡ t.number → t.shown ≡ None → Adds a u (decimal_of n) b v → Adds a u (told_text text t) b v
+  bare e s f = rw (s, ← e) (rw append-nil f)
+
+  -- the text of one that shows something
+  pub shows : {a b c : List ℕ} {n u v w : ℕ} {shown : Shown} → n ≡ t.number → t.shown ≡ Some shown → Adds a u (decimal_of n) b v → Adds b v (text shown) c w
+      → Adds a u (told_text text t) c w
+  shows e s f g = rw (s, ← e) (then f g)
 
 -- no refusal's number has more than two digits
 number_small : (why : Refusal) → number_of why < 100

@@ -1,9 +1,10 @@
 -- Texts written one after the other.
 use mathlib.Core.Path.{refl, sym, ap, ◌∙◌}
 use mathlib.Core.List.{List, [], ◌++◌, append_assoc, append-nil}
-use Prim.Native.Nat.{ℕ}
+use Prim.Native.Nat.{ℕ, ◌≤◌}
 use native.Mathlib.Omega.{arith}
-use lib.ListN.{take, length-append}
+use lib.ListN.{length, take, length-append, length-take}
+use Rattle.io.specs.Counts.{IsPrefixLen}
 use Rattle.text.specs.declared.Page.{Page}
 use Rattle.text.specs.Writing.{Adds}
 use Rattle.text.specs.Pages.{Puts}
@@ -19,6 +20,10 @@ then {a} {s = s} {t = t} {u = u} f g = record {
   counts = omega (arith, f.counts, g.counts, length-append s t);
   long = g.long ∙ f.long;
 }
+
+-- so many bytes at the start
+pub counted : (r : ℕ) (xs : List ℕ) → r ≤ length xs → IsPrefixLen r xs
+counted r xs l = (l, simp length-take (omega arith))
 
 -- the same of what is put on a page
 pub put_nothing : (page : Page) → Puts page [] page

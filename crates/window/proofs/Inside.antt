@@ -13,6 +13,10 @@ use Rattle.window.specs.Claim.{OldestInside}
 pub oldest_inside : OldestInside
 oldest_inside width present w = record { some = omega arith; stays = λ k a b c. omega arith; leaves = λ k a. omega arith }
 
+-- before the first value it is position 1
+pub first_oldest : (width : ℕ) → oldest (record { 0 = 0 }) width ≡ record { 0 = 1 }
+first_oldest width = ap (λ (n : ℕ). record { 0 = n }) (omega arith)
+
 module _ (p : Position) (width : ℕ) (w : 1 ≤ width) where
   -- the value that comes is in the window, which has no more values than its width
   pub newest_inside : (oldest (next p) width).0 ≤ (next p).0

@@ -10,7 +10,7 @@ use native.Mathlib.Omega.{arith}
 use lib.Dec.{eqb}
 use lib.IntN.{ℤ}
 use lib.ListN.{length, length-append}
-use borrow.Author.Tests.{le-leb, lt-leb, lt-ltb, ne_eqb}
+use borrow.Author.Tests.{le-leb, lt-leb, lt-ltb, le-ltb, ne_eqb}
 use Rattle.laws.proofs.Tests.{lt_or_ge}
 use Rattle.history.specs.Minimum.{Minimum}
 use Rattle.history.specs.Minima.{Least, present_at}
@@ -31,6 +31,9 @@ module _ (n width : ℕ) where
 
   pub words_few : 1 ≤ width → width ≤ 4096 → n < 2 * width → opening_refusal n width ≡ 13
   words_few l m f = rw (le-leb 1 width l, le-leb width 4096 m, lt-ltb n (2 * width) f)
+
+  pub words_enough : 1 ≤ width → width ≤ 4096 → 2 * width ≤ n → opening_refusal n width ≡ 0
+  words_enough l m f = rw (le-leb 1 width l, le-leb width 4096 m, le-ltb n (2 * width) f)
 
   -- where none applies, W is in its range, and the words are enough
   pub opening_none : opening_refusal n width ≡ 0 → (1 ≤ width) × (width ≤ 4096) × (2 * width ≤ n)
